@@ -9,7 +9,7 @@ use lib.ListN.{length}
 use Rattle.terms.specs.Counts.{bytes, more, less}
 use Rattle.terms.specs.declared.ByteCount.{ByteCount}
 use Rattle.table.specs.Fetch.{stopState, mismatch, fetchOf}
-use Rattle.table.specs.Trace.{Kind, fault, Trace, ends, addLine, addArea, finishKind, onward, along, traceOf, total}
+use Rattle.table.specs.Trace.{Kind, fault, Trace, ends, addLine, addArea, addRing, finishKind, onward, along, traceOf, total}
 use Rattle.table.specs.Survey.{reportAs, reportFrom}
 use Rattle.table.specs.declared.fetch.Fetched.{Fetched}
 use Rattle.table.specs.declared.fetch.Fetched.the-variants.{Fault, Step, Data}
@@ -54,7 +54,7 @@ module _ (rest : ℕ → ByteCount → Trace) (lines : ℕ) where
   unfolding along
   along-told owed named (Fault state next) = count-end lines named (fault state) next
   along-told owed named (Step next last int) = onward-told last next owed named
-  along-told owed named (Data next at n last int) = count-area lines named n at (onward rest last next (less owed n)) ∙ onward-told last next (less owed n) (more named n)
+  along-told owed named (Data next at n last int) = count-area lines named n at (addRing int (onward rest last next (less owed n))) ∙ onward-told last next (less owed n) (more named n)
 
 -- the clause of `traceOf` for a line that is allowed, in the code's terms
 pub follow-told : (mem : List ℕ) (n at : ℕ) (owed named : ByteCount) (lines : ℕ) → (n ≡ 0 → ⊥)

@@ -14,7 +14,7 @@ use Rattle.terms.specs.declared.ByteCount.{ByteCount}
 use Rattle.table.specs.Memory.{inMemory}
 use Rattle.table.specs.Line.{lineBytes, lengthOf, addressOf, flagsOf, actOf}
 use Rattle.table.specs.Fetch.{stopState, moveState, mismatch, fetchState, nextLine, dataOf, tranOf, actedOf, fetchOf}
-use Rattle.table.specs.Trace.{well, fault, limit, Area, Trace, ends, finishKind, onward, along, traceOf, total}
+use Rattle.table.specs.Trace.{well, fault, limit, Area, Trace, ends, addRing, finishKind, onward, along, traceOf, total}
 use Rattle.table.specs.Sound.{areasOf, nextOf, joined, beyond, linked, dataOfTable, Inside, Sound}
 use Rattle.table.specs.declared.line.Act.{Act}
 use Rattle.table.specs.declared.line.Act.the-variants.{Tran, Link, Other}
@@ -50,6 +50,10 @@ none-joined none = refl
 none-joined (some r) = refl
 
 module _ (size : ℕ) where
+  -- Int has no say
+  ring-agrees : (owed : ByteCount) (int : Bool) {t : Trace} {says : Option (List Area)} → Agrees size owed t says → Agrees size owed (addRing int t) says
+  ring-agrees owed int a = record { fits = a .fits; goes = a .goes }
+
   -- an error agrees with data that does not fit
   fault-agrees : (owed : ByteCount) (state at : ℕ) (says : Option (List Area)) → ((named : List Area) → Fits size owed says named → ⊥)
       → Agrees size owed (ends (fault state) at) says
@@ -119,8 +123,8 @@ module _ (size : ℕ) where
         → Agrees size owed (along rest owed (actedOf act l at size owed)) (joined (areasOf l act) (beyond says (flagsOf l .end) (nextOf at l act)))
     unfolding along areasOf nextOf
     acted-agrees Tran l at owed = tran-agrees l (nextLine at) owed
-    acted-agrees Link l at owed = rw none-joined (onward-agrees (flagsOf l .end) (addressOf l) owed)
-    acted-agrees Other l at owed = rw none-joined (onward-agrees (flagsOf l .end) (nextLine at) owed)
+    acted-agrees Link l at owed = rw none-joined (ring-agrees owed (flagsOf l .int) (onward-agrees (flagsOf l .end) (addressOf l) owed))
+    acted-agrees Other l at owed = rw none-joined (ring-agrees owed (flagsOf l .int) (onward-agrees (flagsOf l .end) (nextLine at) owed))
 
     -- a line, with Valid or without
     line-agrees : (l : List ℕ) (at : ℕ) (owed : ByteCount) (t : Bool)

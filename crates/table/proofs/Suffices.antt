@@ -15,7 +15,7 @@ use Rattle.terms.specs.declared.ByteCount.{ByteCount}
 use Rattle.table.specs.Memory.{tooLarge}
 use Rattle.table.specs.Line.{aligned}
 use Rattle.table.specs.Fetch.{fetchOf}
-use Rattle.table.specs.Trace.{Kind, fault, limit, Trace, ends, addLine, addArea, finishKind, onward, along, traceOf, total}
+use Rattle.table.specs.Trace.{Kind, fault, limit, Trace, ends, addLine, addArea, addRing, finishKind, onward, along, traceOf, total}
 use Rattle.table.specs.Survey.{kindOf, reportOf, allowedOf, limitOver, surveyTrace, refusedAs, surveyOf}
 use Rattle.table.specs.declared.fetch.Fetched.{Fetched}
 use Rattle.table.specs.declared.fetch.Fetched.the-variants.{Fault, Step, Data}
@@ -34,8 +34,8 @@ module _ (rest longer : ℕ → ByteCount → Trace)
   along-same : (owed : ByteCount) (f : Fetched) → along rest owed f .kind ≢ limit → along longer owed f ≡ along rest owed f
   unfolding along
   along-same owed (Fault state next) h = refl
-  along-same owed (Step next last int) h = onward-same last next owed h
-  along-same owed (Data next at n last int) h = ap (addArea at (n .0)) (onward-same last next (less owed n) h)
+  along-same owed (Step next last int) h = ap (addRing int) (onward-same last next owed h)
+  along-same owed (Data next at n last int) h = ap (λ (t : Trace). addArea at (n .0) (addRing int t)) (onward-same last next (less owed n) h)
 
 -- a limit under which the table ends or fails gives what every larger one gives
 pub larger-limit : (mem : List ℕ) (n k at : ℕ) (owed : ByteCount) → traceOf mem n at owed .kind ≢ limit → traceOf mem (n + k) at owed ≡ traceOf mem n at owed
@@ -78,10 +78,11 @@ finish-limit (suc n) e = let z : _≡_ {A = ℕ} 0 1 = cc in omega arith
 fault-limit : (state : ℕ) → fault state ≢ limit
 fault-limit state e = let z : _≡_ {A = ℕ} 0 1 = cc in omega arith
 
--- what holds of a trace that stops at once, and of one with one more area or line if it holds of what follows, holds of every trace
+-- what holds of a trace that stops at once, and of one with one more ring, area or line if it holds of what follows, holds of every trace
 module _ (P : ℕ → ByteCount → Trace → Type 0)
     (none-left : (at : ℕ) (owed : ByteCount) → P 0 owed (ends limit at))
     (stops : (n : ℕ) (owed : ByteCount) (k : Kind) (at : ℕ) → k ≢ limit → P n owed (ends k at))
+    (with-ring : (n : ℕ) (owed : ByteCount) (int : Bool) (t : Trace) → P n owed t → P n owed (addRing int t))
     (with-area : (n : ℕ) (owed m : ByteCount) (at : ℕ) (t : Trace) → m .0 ≤ owed .0 → P n (less owed m) t → P n owed (addArea at (m .0) t))
     (with-line : (n : ℕ) (owed : ByteCount) (at : ℕ) (t : Trace) → P n owed t → P (suc n) owed (addLine at t)) where
   module _ (n : ℕ) (rest : ℕ → ByteCount → Trace) (follows : (next : ℕ) (left : ByteCount) → P n left (rest next left)) where
@@ -93,9 +94,10 @@ module _ (P : ℕ → ByteCount → Trace → Type 0)
     along-all : (size : ℕ) (owed : ByteCount) (f : Fetched) → Good size owed f → P n owed (along rest owed f)
     unfolding along
     along-all size owed (Fault state next) g = stops n owed (fault state) next (fault-limit state)
-    along-all size owed (Step next last int) g = onward-all last next owed
+    along-all size owed (Step next last int) g = with-ring n owed int (onward rest last next owed) (onward-all last next owed)
     along-all size owed (Data next at m last int) g =
-        with-area n owed m at (onward rest last next (less owed m)) (g .1) (onward-all last next (less owed m))
+        let t = onward rest last next (less owed m) in
+        with-area n owed m at (addRing int t) (g .1) (with-ring n (less owed m) int t (onward-all last next (less owed m)))
 
   -- the rule for every trace
   pub trace-all : (mem : List ℕ) (n at : ℕ) (owed : ByteCount) → P n owed (traceOf mem n at owed)
@@ -111,6 +113,7 @@ lines-within mem n at owed =
     trace-all (λ n owed t. length (t .lines) ≤ n)
     (λ at owed. omega arith)
     (λ n owed k at h. omega arith)
+    (λ n owed int t h. h)
     (λ n owed m at t w h. h)
     (λ n owed at t h. omega arith)
     mem n at owed
@@ -121,6 +124,7 @@ limit-lines mem n at owed =
     trace-all (λ n owed t. t .kind ≡ limit → length (t .lines) ≡ n)
     (λ at owed e. refl)
     (λ n owed k at h e. absurd (h e))
+    (λ n owed int t h. h)
     (λ n owed m at t w h. h)
     (λ n owed at t h e. ap suc (h e))
     mem n at owed
@@ -132,6 +136,7 @@ bytes-within mem n at owed =
     trace-all (λ n owed t. total (t .named) .0 ≤ owed .0)
     (λ at owed. omega arith)
     (λ n owed k at h. omega arith)
+    (λ n owed int t h. h)
     (λ n owed m at t w h. omega arith)
     (λ n owed at t h. h)
     mem n at owed

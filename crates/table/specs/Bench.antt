@@ -4,14 +4,10 @@ use Prim.Native.Nat.{ℕ}
 use mathlib.Core.List.{List, [], _∷_}
 use Rattle.terms.specs.Counts.{bytes}
 use Rattle.terms.specs.Answers.{numberOf}
+use Rattle.terms.specs.Bench.{Row}
 use Rattle.table.specs.Line.{lengthOf}
 use Rattle.table.specs.Survey.{surveyOf}
 use Rattle.table.specs.declared.survey.Surveyed.{Surveyed}
-
--- what the definitions give, and what the paper says
-pub record Row : Type 0 where
-  pub given : List ℕ
-  pub said : List ℕ
 
 -- the worked example's memory, with another first byte or line address
 abbrev pub memory : ℕ → ℕ → List ℕ

@@ -26,16 +26,26 @@ pub record Trace : Type 0 where
   pub kind : Kind
   pub lines : List ℕ  -- the addresses of the lines tried
   pub named : List Area  -- the data of the sound Tran lines
+  pub rings : ℕ  -- how many lines done have Int
   pub after : ℕ  -- the address after
 
 abbrev pub ends : Kind → ℕ → Trace
-ends k at = record { kind = k; lines = []; named = []; after = at }
+ends k at = record { kind = k; lines = []; named = []; rings = 0; after = at }
 
 abbrev pub addLine : ℕ → Trace → Trace
-addLine at t = record { kind = t .kind; lines = at ∷ t .lines; named = t .named; after = t .after }
+addLine at t = record { kind = t .kind; lines = at ∷ t .lines; named = t .named; rings = t .rings; after = t .after }
 
 abbrev pub addArea : ℕ → ℕ → Trace → Trace
-addArea at n t = record { kind = t .kind; lines = t .lines; named = record { at = at; len = n } ∷ t .named; after = t .after }
+addArea at n t =
+    record { kind = t .kind; lines = t .lines; named = record { at = at; len = n } ∷ t .named; rings = t .rings; after = t .after }
+
+-- "A line done with Int sets DMA Interrupt."
+unfoldable pub ringOf : Bool → ℕ
+ringOf true = 1
+ringOf false = 0
+
+abbrev pub addRing : Bool → Trace → Trace
+addRing int t = record { kind = t .kind; lines = t .lines; named = t .named; rings = ringOf int + t .rings; after = t .after }
 
 -- "A line done with End stops the engine; bytes still owed then are an error in state 00 with Mismatch."
 abbrev pub finishKind : ℕ → Kind
@@ -50,8 +60,8 @@ onward rest false next owed = rest next owed
 -- after the fetch of a line; what a sound Tran line names is owed no longer
 unfoldable pub along : (ℕ → ByteCount → Trace) → ByteCount → Fetched → Trace
 along rest owed (Fault state next) = ends (fault state) next
-along rest owed (Step next last int) = onward rest last next owed
-along rest owed (Data next at n last int) = addArea at (n .0) (onward rest last next (less owed n))
+along rest owed (Step next last int) = addRing int (onward rest last next owed)
+along rest owed (Data next at n last int) = addArea at (n .0) (addRing int (onward rest last next (less owed n)))
 
 -- "each further line is followed with one line less allowed"
 unfoldable pub traceOf : List ℕ → ℕ → ℕ → ByteCount → Trace

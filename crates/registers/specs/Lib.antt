@@ -1,0 +1,9 @@
+pub mod Bits
+pub mod Place
+pub mod Interrupt
+pub mod Word
+pub mod Block
+pub mod Reset
+pub mod Access
+pub mod Bytes
+pub mod Bench
