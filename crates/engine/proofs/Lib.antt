@@ -1,0 +1,22 @@
+-- What the proofs of several functions use, and the theorems over the definitions.
+pub mod Clauses
+pub mod Lent
+pub mod Exactly
+pub mod Refused
+pub mod Coming
+pub mod Invariant
+pub mod Pasted
+pub mod Alike
+pub mod Moves
+pub mod Turns
+pub mod Passes
+pub mod Content
+pub mod Worlds
+pub mod Reached
+pub mod Steps
+pub mod Progress
+pub mod Demand3
+pub mod Drive
+pub mod Ends
+pub mod Boot
+pub mod Example
