@@ -1,0 +1,13 @@
+-- The theorems over the definitions: every entry, in every world.
+pub mod Causes
+pub mod Effects
+pub mod Given
+pub mod Numbers
+pub mod Refused
+pub mod Exactly
+pub mod Bench
+pub mod Masks
+pub mod Clean
+pub mod Paired
+pub mod Example
+pub mod Lent
