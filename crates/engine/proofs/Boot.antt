@@ -57,5 +57,5 @@ module _ (way : Way) (counted : Bool) (size : ℕ) (blocks : BlockCount) (at : �
 
     -- with the named bytes carried
     pub boot-delivers : (es : List Event) → runsOf (after es .dat) ≡ false
-        → Delivered way mem (traceOf mem defaultLimit (aligned at) (times blocks size) .named) (after es)
+        → Delivered way mem (traceOf mem defaultLimit (aligned at) (times blocks size) .named) (after es .memory) (after es .passed)
     boot-delivers es g = completed way counted size blocks (aligned at) buffer mem defaultLimit boot-premise es (boot-completes es g)

@@ -33,7 +33,7 @@ use Rattle.engine.proofs.Progress.{progress, bounded}
 record Ended (way : Way) (G : Goal) (w : World) : Type 0 where
   outcome : w .told ≡ endOf (G .trace .kind)
   stands : w .dat ≡ endsAs way (G .trace .kind)
-  carried : Carried way (G .memory) (G .trace .named) w
+  carried : Carried way (G .size) (G .memory) (G .trace .named) (w .memory) (w .passed)
   rung : w .rings ≡ G .trace .rings
 
 module _ (counted : Bool) (G : Goal) (n : ℕ) (s : Now) (x : List ℕ) where
@@ -41,10 +41,12 @@ module _ (counted : Bool) (G : Goal) (n : ℕ) (s : Now) (x : List ℕ) where
   shows way st = world way counted (G .size) s x st
 
   -- with no data to come, the named bytes are carried
-  end-carried : (way : Way) (st : Next) → comes n s st .named ≡ [] → Inv way G n s st → Carried way (G .memory) (G .trace .named) (shows way st)
+  end-carried : (way : Way) (st : Next) → comes n s st .named ≡ [] → Inv way G n s st
+      → Carried way (G .size) (G .memory) (G .trace .named) (s .cargo .memory) (s .cargo .passed)
   unfolding namedBytes fill
   end-carried Write st e i = (
     s .cargo .held,
+    i .within,
     ap (λ (l : List ℕ). s .cargo .passed ++ l) (sym (append-nil (s .cargo .held)))
         ∙ ap (λ (l : List Area). s .cargo .passed ++ (s .cargo .held ++ namedBytes (s .cargo .memory) l)) (sym e) ∙ i .side .carried,
   )
@@ -74,7 +76,7 @@ module _ (counted : Bool) (G : Goal) (n : ℕ) (s : Now) (x : List ℕ) where
       }
 
   -- "nothing else touched"
-  kept : (way : Way) (st : Next) → Inv way G n s st → Kept way (G .memory) (G .trace .named) (shows way st)
+  kept : (way : Way) (st : Next) → Inv way G n s st → Kept way (G .memory) (G .trace .named) (s .cargo .memory)
   kept Write st i = i .side .same
   kept Read st i = (i .long, λ j o. i .side .others j o .1)
 

@@ -33,7 +33,8 @@ accepted size w (by-taken f) =
     let b : List ℕ = replicate size 0 in
     (taken b, counts (takenOf (w .dat) (w .buffer) b .0 .answer) (w .steps) (f b (omega (arith, length-replicate {A = ℕ} size 0))))
 
-run-append : (es fs : List Event) (w : World) → run w (es ++ fs) ≡ run (run w es) fs
+-- a run of a run
+pub run-append : (es fs : List Event) (w : World) → run w (es ++ fs) ≡ run (run w es) fs
 unfolding run
 run-append [] fs w = refl
 run-append (e ∷ es) fs w = run-append es fs (next w e)

@@ -98,10 +98,11 @@ module _ (way : Way) (counted : Bool) (size : ℕ) (blocks : BlockCount) (table 
   found-sound : final .told ≡ Completes → Sound mem lines table (times blocks size) (trace .named)
   found-sound e = well-sound mem lines table (times blocks size) (end-well (trace .kind) (sym (demand .outcome (ap runsOf (demand .whole e .0))) ∙ e))
 
-  delivers : (way : Way) → final .told ≡ Completes → Carried way mem (trace .named) final → Delivered way mem (trace .named) final
+  delivers : (way : Way) → final .told ≡ Completes → Carried way size mem (trace .named) (final .memory) (final .passed)
+      → Delivered way mem (trace .named) (final .memory) (final .passed)
   delivers Write e carried =
       let s = found-sound e in
-      whole-first (final .passed) (carried .0) (namedBytes mem (trace .named)) (carried .1)
+      whole-first (final .passed) (carried .0) (namedBytes mem (trace .named)) (carried .2)
       (demand .whole e .1 ∙ sym (named-length mem (trace .named) (s .inside) ∙ ap (λ (b : ByteCount). b .0) (s .adds)))
   delivers Read e carried =
       let s = found-sound e in
@@ -111,5 +112,5 @@ module _ (way : Way) (counted : Bool) (size : ℕ) (blocks : BlockCount) (table 
       ∙ take-all (total (trace .named) .0) (final .passed) (omega arith)
 
   -- "the blocks taken, joined, are the named bytes in order", and on a read the named data holds the blocks given
-  pub completed : final .told ≡ Completes → Delivered way mem (trace .named) final
+  pub completed : final .told ≡ Completes → Delivered way mem (trace .named) (final .memory) (final .passed)
   completed e = delivers way e (demand .carried (ap runsOf (demand .whole e .0)))

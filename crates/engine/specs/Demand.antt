@@ -88,22 +88,22 @@ endsAs way well = Free
 endsAs way (fault state) = Halted way
 endsAs way limit = Halted way
 
--- the bytes carried when a transfer has ended: on a write the blocks taken, and what was left in the buffer, are the named bytes in order; on a
--- read memory is what it was, with the named areas filled in order by the blocks given
-abbrev pub Carried : Way → List ℕ → List Area → World → Type 0
-Carried Write mem named w = (rest : List ℕ) × (w .passed ++ rest ≡ namedBytes mem named)
-Carried Read mem named w = w .memory ≡ fill mem named (w .passed)
+-- the bytes carried when a transfer has ended, by memory then and the bytes that have passed: on a write the blocks taken, and at most one block
+-- left in the buffer, are the named bytes in order; on a read memory is what it was, with the named areas filled in order by the blocks given
+abbrev pub Carried : Way → (size : ℕ) (mem : List ℕ) (named : List Area) (after passed : List ℕ) → Type 0
+Carried Write size mem named after passed = (rest : List ℕ) × (length rest ≤ size) × (passed ++ rest ≡ namedBytes mem named)
+Carried Read size mem named after passed = after ≡ fill mem named passed
 
 -- "nothing else touched", at any time: a write leaves memory, a read leaves every byte outside the named areas
-abbrev pub Kept : Way → List ℕ → List Area → World → Type 0
-Kept Write mem named w = w .memory ≡ mem
-Kept Read mem named w = (length (w .memory) ≡ length mem) × ((i : ℕ) → Outside i named → getD (w .memory) i 0 ≡ getD mem i 0)
+abbrev pub Kept : Way → (mem : List ℕ) (named : List Area) (after : List ℕ) → Type 0
+Kept Write mem named after = after ≡ mem
+Kept Read mem named after = (length after ≡ length mem) × ((i : ℕ) → Outside i named → getD after i 0 ≡ getD mem i 0)
 
 -- the blocks of a transfer that has completed: on a write they are, joined, the named bytes in order; on a read, where the named areas lie apart,
 -- these hold them, joined, in order
-abbrev pub Delivered : Way → List ℕ → List Area → World → Type 0
-Delivered Write mem named w = w .passed ≡ namedBytes mem named
-Delivered Read mem named w = Separate named → namedBytes (w .memory) named ≡ w .passed
+abbrev pub Delivered : Way → (mem : List ℕ) (named : List Area) (after passed : List ℕ) → Type 0
+Delivered Write mem named after passed = passed ≡ namedBytes mem named
+Delivered Read mem named after passed = Separate named → namedBytes after named ≡ passed
 
 pub record Demand (way : Way) (size : ℕ) (blocks : BlockCount) (table : ℕ) (mem : List ℕ) (lines : ℕ) (w : World) : Type 0 where
   -- "at most 2N + B turns do something"
@@ -114,9 +114,9 @@ pub record Demand (way : Way) (size : ℕ) (blocks : BlockCount) (table : ℕ) (
   -- it ends as the table says, and stands so
   pub outcome : runsOf (w .dat) ≡ false → w .told ≡ endOf (traceOf mem lines table (times blocks size) .kind)
   pub stands : runsOf (w .dat) ≡ false → w .dat ≡ endsAs way (traceOf mem lines table (times blocks size) .kind)
-  pub carried : runsOf (w .dat) ≡ false → Carried way mem (traceOf mem lines table (times blocks size) .named) w
+  pub carried : runsOf (w .dat) ≡ false → Carried way size mem (traceOf mem lines table (times blocks size) .named) (w .memory) (w .passed)
   -- DMA Interrupt is raised once by each line done with Int, and by nothing else
   pub rung : runsOf (w .dat) ≡ false → w .rings ≡ traceOf mem lines table (times blocks size) .rings
   pub ringing : w .rings ≤ traceOf mem lines table (times blocks size) .rings
-  pub kept : Kept way mem (traceOf mem lines table (times blocks size) .named) w
+  pub kept : Kept way mem (traceOf mem lines table (times blocks size) .named) (w .memory)
   pub whole : w .told ≡ Completes → (w .dat ≡ Free) × (length (w .passed) ≡ times blocks size .0)
