@@ -37,6 +37,13 @@ const RAISED: [u32; 14] = [0, 1, 3, 6, 7, 8, 16, 17, 18, 19, 20, 21, 22, 25];
 
 /// All of them, in the order they are printed.
 pub fn all() -> Vec<Item> {
+    let mut items = of_steps();
+    items.push(Item::BadFile);
+    items
+}
+
+/// Those that steps can meet, whatever they were read from.
+pub fn of_steps() -> Vec<Item> {
     let mut items: Vec<Item> = (0..=LAST_ANSWER).map(Item::Answer).collect();
     items.extend((2..=9).map(Item::OutOfTurn));
     for byte in [1, 3, 4, 7] {
@@ -52,7 +59,6 @@ pub fn all() -> Vec<Item> {
         Item::WriteCompleteByBlock,
         Item::WriteCompleteByTurn,
         Item::BusyOver,
-        Item::BadFile,
     ]);
     items
 }

@@ -1,12 +1,13 @@
-//! Run files through a program under test and through the reference.
+//! Run files through a program under test, or its library, and through the reference.
 //!
-//! Exit status 0: all passed; 1: an output differs or something was never met or found;
+//! Exit status 0: all passed; 1: something differs or was never met or found;
 //! 2: the comparison could not be made.
 
 mod chance;
 mod difference;
 mod faults;
 mod items;
+mod library;
 mod make;
 mod options;
 mod program;
@@ -47,6 +48,7 @@ fn main() -> ExitCode {
 fn done(task: Task) -> Result<Score, String> {
     match task {
         Task::Faults { seed, count } => Ok(faults::compare(seed, count)),
+        Task::Library { choice } => Ok(library::compare(choice)),
         Task::Random { choice, program } => {
             let program = Program::new(&program)?;
             let prints = |bytes: &[u8]| program.output(bytes);

@@ -44,16 +44,16 @@ pub fn compare(prints: &Prints, choice: Choice, kept_as: &Path) -> Result<Score,
 
 // A comparison that has not met everything shows too little to be passed.
 fn counted(tally: &Tally, files: u64) -> Score {
+    let items = crate::items::all();
     println!("{files} files compared; met:");
-    print!("{}", tally.table());
+    print!("{}", tally.table(&items));
     println!("{UNREACHABLE}");
-    let missing = tally.missing();
+    let missing = tally.missing(&items);
     for item in &missing {
         println!("never met: {item}");
     }
-    let items = crate::items::all().len() - missing.len();
     Score {
-        passed: files + items as u64,
+        passed: files + (items.len() - missing.len()) as u64,
         failed: missing.len() as u64,
     }
 }

@@ -1,6 +1,6 @@
 //! How often each thing to be met was met.
 
-use crate::items::{self, Item};
+use crate::items::Item;
 use reference::{Machine, RunFile, Seen, Step};
 use runtext::kinds;
 use std::collections::BTreeMap;
@@ -30,12 +30,17 @@ impl Tally {
             let before = slot.peek(0x024);
             let seen = slot.step(step);
             let after = slot.peek(0x024);
-            self.step(step, &seen);
-            self.dat(step, &seen, before, after);
+            self.step(step, &seen, before, after);
         }
     }
 
-    fn step(&mut self, step: &Step, seen: &Seen) {
+    /// Counts one step by what is seen of it and by Present State before and after it.
+    pub fn step(&mut self, step: &Step, seen: &Seen, before: u32, after: u32) {
+        self.seen(step, seen);
+        self.dat(step, seen, before, after);
+    }
+
+    fn seen(&mut self, step: &Step, seen: &Seen) {
         self.met(Item::Answer(seen.answer));
         if seen.answer == 7 {
             self.met(Item::OutOfTurn(step.kind));
@@ -84,17 +89,17 @@ impl Tally {
         self.0.get(&item).copied().unwrap_or(0)
     }
 
-    /// The items never met.
-    pub fn missing(&self) -> Vec<Item> {
-        let never = |item: &Item| self.times(*item) == 0;
-        items::all().into_iter().filter(never).collect()
+    /// Those of the items that were never met.
+    pub fn missing(&self, items: &[Item]) -> Vec<Item> {
+        let never = |item: &&Item| self.times(**item) == 0;
+        items.iter().filter(never).copied().collect()
     }
 
-    /// Every item with its count, one a line.
-    pub fn table(&self) -> String {
-        items::all()
-            .into_iter()
-            .map(|item| format!("{:>10}  {item}\n", self.times(item)))
+    /// Each item with its count, one a line.
+    pub fn table(&self, items: &[Item]) -> String {
+        items
+            .iter()
+            .map(|item| format!("{:>10}  {item}\n", self.times(*item)))
             .collect()
     }
 }
@@ -102,6 +107,7 @@ impl Tally {
 #[cfg(test)]
 mod tests {
     use super::*;
+    use crate::items;
 
     fn counted(text: &str) -> Tally {
         let file = runtext::to_file(text).expect("a text");
@@ -137,6 +143,6 @@ mod tests {
 
     #[test]
     fn most_is_missing_at_first() {
-        assert_eq!(Tally::default().missing(), items::all());
+        assert_eq!(Tally::default().missing(&items::all()), items::all());
     }
 }

@@ -54,15 +54,20 @@ fn stored_texts_fail_one_by_one() {
     assert!(text.contains("two.out"), "no output is stored for it");
 }
 
+// Each fault is looked for in two ways, but for the one that is of files alone.
+fn looked_for() -> usize {
+    2 * reference::Fault::ALL.len() - 1
+}
+
 #[test]
 fn faults_are_told_in_a_table() {
     let folder = folder("faults");
     let output = compare(&folder, &["--faults"]);
     assert_eq!(output.status.code(), Some(0));
-    let faults = reference::Fault::ALL.len();
-    assert_eq!(last_line(&output), format!("{faults} passed, 0 failed"));
+    let found = looked_for();
+    assert_eq!(last_line(&output), format!("{found} passed, 0 failed"));
     let text = String::from_utf8_lossy(&output.stdout);
-    assert_eq!(text.matches("| found at file number ").count(), faults);
+    assert_eq!(text.matches("| found at file number ").count(), found);
 }
 
 #[test]
@@ -70,10 +75,21 @@ fn faults_never_found_fail() {
     let folder = folder("faults-missed");
     let output = compare(&folder, &["--faults", "--count", "0"]);
     assert_eq!(output.status.code(), Some(1));
-    let faults = reference::Fault::ALL.len();
-    assert_eq!(last_line(&output), format!("0 passed, {faults} failed"));
+    let missed = looked_for();
+    assert_eq!(last_line(&output), format!("0 passed, {missed} failed"));
     let text = String::from_utf8_lossy(&output.stdout);
-    assert_eq!(text.matches(" | never found |").count(), faults);
+    assert_eq!(text.matches(" never found |").count(), missed);
+}
+
+#[test]
+fn the_library_is_compared_without_a_program() {
+    let folder = folder("library");
+    let output = compare(&folder, &["--library", "--count", "3", "--seed", "2"]);
+    // Three files meet too little, and none of them differs.
+    assert_eq!(output.status.code(), Some(1));
+    let text = String::from_utf8_lossy(&output.stdout);
+    assert!(text.starts_with("3 files driven through the library; met:\n"));
+    assert!(text.contains("never met: "));
 }
 
 #[test]

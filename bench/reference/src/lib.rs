@@ -31,8 +31,12 @@ mod slot;
 mod survey;
 mod turns;
 
+pub use answers::Refusal;
+pub use counters::Bytes;
 pub use faults::Fault;
-pub use lines::write_line;
+pub use lines::{read_line, write_line};
 pub use machine::{run, run_with, Machine, Seen};
 pub use runfile::{encode, parse, RunFile, Step};
+pub use slot::Slot;
 pub use survey::{boot_check, survey, Survey};
+pub use turns::Turned;

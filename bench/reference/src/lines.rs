@@ -211,6 +211,13 @@ pub fn write_line(room: &mut [u8], flags: [bool; 5], length: u32, address: u32) 
     }
 }
 
+/// Reads a line: its flags (Valid, End, Int, Act1, Act2), length and address.
+pub fn read_line(part: &[u8]) -> ([bool; 5], u32, u32) {
+    let line = Line(part);
+    let flags = [VALID, END, INT, ACT1, ACT2].map(|flag| line.flag(flag));
+    (flags, line.length().0, line.address())
+}
+
 fn line_bytes(flags: [bool; 5], length: u32, address: u32) -> Option<[u8; 8]> {
     if length == 0 || length > LONGEST || !address.is_multiple_of(4) {
         return None;

@@ -92,8 +92,38 @@ impl Machine {
 
     /// Runs one step of a good file.
     pub fn step(&mut self, step: &Step) -> Seen {
+        self.watched(|machine| machine.act(step))
+    }
+
+    /// Offers any block, which need be none of the card's bytes.
+    pub fn given(&mut self, block: &[u8]) -> Seen {
+        self.watched(|machine| machine.slot.block_given(block).map(Done::from))
+    }
+
+    /// A block is taken into any room.
+    pub fn taken_into(&mut self, room: &mut [u8]) -> Seen {
+        self.watched(|machine| machine.slot.block_taken(room).map(Done::from))
+    }
+
+    /// A turn over memory that is lent for it alone.
+    pub fn turn_over(&mut self, memory: &mut [u8]) -> Seen {
+        self.watched(|machine| machine.slot.turn(memory).map(Done::from))
+    }
+
+    /// A turn over the first bytes of the run's memory only.
+    pub fn turn_within(&mut self, length: usize) -> Seen {
+        self.watched(|machine| {
+            let length = length.min(machine.memory.len());
+            machine
+                .slot
+                .turn(&mut machine.memory[..length])
+                .map(Done::from)
+        })
+    }
+
+    fn watched(&mut self, act: impl FnOnce(&mut Machine) -> Result<Done, Refusal>) -> Seen {
         let before = self.slot.status();
-        let (answer, done) = match self.act(step) {
+        let (answer, done) = match act(self) {
             Ok(done) => (DONE, done),
             Err(refusal) => (refusal.number(), Done::default()),
         };
@@ -166,6 +196,11 @@ impl Machine {
 
     pub fn memory(&self) -> &[u8] {
         &self.memory
+    }
+
+    /// What the one-block buffer holds; nothing without a running transfer.
+    pub fn buffer(&self) -> &[u8] {
+        self.slot.buffer()
     }
 
     /// The room for taken blocks as the last one left it.

@@ -400,6 +400,14 @@ impl Slot {
     pub fn transfer_runs(&self) -> bool {
         matches!(self.dat, DatSide::Transfer(_))
     }
+
+    /// What the buffer of a running transfer holds.
+    pub fn buffer(&self) -> &[u8] {
+        match &self.dat {
+            DatSide::Transfer(transfer) => &transfer.buffer,
+            _ => &[],
+        }
+    }
 }
 
 #[cfg(test)]

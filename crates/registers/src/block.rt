@@ -27,6 +27,7 @@ use terms::Answer;
 use terms::BlockCount;
 
 // 000h to 00Fh.
+#[repr(C)]
 pub struct Setup {
     pub system: u32,
     pub block: u32,
@@ -35,6 +36,7 @@ pub struct Setup {
 }
 
 // 010h to 01Fh.
+#[repr(C)]
 pub struct Reply {
     pub first: u32,
     pub second: u32,
@@ -43,18 +45,21 @@ pub struct Reply {
 }
 
 // 028h to 02Fh.
+#[repr(C)]
 pub struct Control {
     pub host: u32,
     pub clock: u32,
 }
 
 // 054h to 05Fh.
+#[repr(C)]
 pub struct Adma {
     pub fault: u8,
     pub low: u32,
     pub high: u32,
 }
 
+#[repr(C)]
 pub struct Registers {
     pub setup: Setup,
     pub reply: Reply,

@@ -25,6 +25,7 @@ pub enum Event {
 }
 
 // 030h to 03Bh: Normal in the low half of each word, Error in the high half. Bits 8 and 15 of the status are derived.
+#[repr(C)]
 pub struct Interrupts {
     pub status: u32,
     pub enabled: u32,

@@ -19,6 +19,8 @@ use reference::RunFile;
 use ride::Ride;
 use runtext::STEP_LIMIT;
 
+pub use wild::any_step;
+
 /// A run file made for a comparison, and what is wrong with its bytes.
 #[derive(Clone, Debug, PartialEq, Eq)]
 pub struct Made {

@@ -44,8 +44,8 @@ fn any_access(chance: &mut Chance) -> Step {
     kinds::write(offset as u16, width, chance.word())
 }
 
-// A good step of any kind; those with a detail get any that is good.
-fn any_step(chance: &mut Chance) -> Step {
+/// A good step of any kind; those with a detail get any that is good.
+pub fn any_step(chance: &mut Chance) -> Step {
     let detail = chance.pick(&[0, 0, 0, 1, 2, 3, 4, 5, 255]);
     match chance.below(11) as u8 {
         kinds::WRITE | kinds::READ => any_access(chance),

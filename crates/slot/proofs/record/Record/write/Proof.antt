@@ -1,0 +1,11 @@
+-- `Record::write` meets its contract: the slot that is spelled makes the step.
+-- Assumes nothing.
+use Rattle.slot.proofs.record.Record.write.Statement.{statement}
+use Rattle.slot.proofs.record.Record.write.Tie as tie
+
+pub write-spec : {M : Type 1} → statement M
+write-spec =
+    tie.close
+    (tie.spec
+    (λ c κs. tt) (λ c κs. tt) (λ c κs. tt)
+    (λ c. rw (c .spelled .ensures, c .before .write .ensures, c .before .before .slot .ensures)))

@@ -1,0 +1,4 @@
+pub mod Record
+pub mod Step
+pub mod Lines
+pub mod Same
