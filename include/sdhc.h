@@ -189,7 +189,7 @@ struct sdhc_report {
 /* What the boot check says. */
 struct sdhc_boot {
     uint32_t number; /* an sdhc_number */
-    uint32_t yes;    /* 1: a transfer would go well */
+    uint32_t yes; /* 1: the table goes well within 64 lines; 0: it does not, or it was not followed to its end */
 };
 
 /* A descriptor line: its five flags, down at 0 and up at any other number, the bytes it names, and an address. */

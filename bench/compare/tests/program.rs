@@ -54,9 +54,9 @@ fn stored_texts_fail_one_by_one() {
     assert!(text.contains("two.out"), "no output is stored for it");
 }
 
-// Each fault is looked for in two ways, but for the one that is of files alone.
+// Each fault is looked for in two ways, but for four that can be seen in one way only.
 fn looked_for() -> usize {
-    2 * reference::Fault::ALL.len() - 1
+    2 * reference::Fault::ALL.len() - 4
 }
 
 #[test]

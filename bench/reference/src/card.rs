@@ -105,11 +105,15 @@ impl Slot {
 
     /// A full buffer goes to the card; on a write this may be what completes the transfer.
     pub fn block_taken(&mut self, room: &mut [u8]) -> Result<Bytes, Refusal> {
+        let fault = self.fault;
         let transfer = self.running_transfer().ok_or(Refusal::OutOfTurn)?;
         if !transfer.has_block() {
             return Err(Refusal::OutOfTurn);
         }
         let size = transfer.block_size();
+        if fault == Some(Fault::ShortRoomFilled) && room.len() < size.as_len() {
+            room.fill(0);
+        }
         let place = room.get_mut(..size.as_len());
         let place = place.ok_or(Refusal::WrongBlock)?;
         transfer.take_into(place);

@@ -27,10 +27,13 @@ pub enum Fault {
     CommandResetFrees,
     FullResetDropsLevel,
     LevelTwo,
+    LastByteLost,
+    ShortRoomFilled,
+    MemoryUnbounded,
 }
 
 impl Fault {
-    pub const ALL: [Fault; 20] = [
+    pub const ALL: [Fault; 23] = [
         Fault::AckDropsLine,
         Fault::AckClearsAll,
         Fault::OneComplete,
@@ -51,6 +54,9 @@ impl Fault {
         Fault::CommandResetFrees,
         Fault::FullResetDropsLevel,
         Fault::LevelTwo,
+        Fault::LastByteLost,
+        Fault::ShortRoomFilled,
+        Fault::MemoryUnbounded,
     ];
 
     /// What is wrong, in one line.
@@ -76,6 +82,9 @@ impl Fault {
             Fault::CommandResetFrees => "a CMD reset frees the DAT side too",
             Fault::FullResetDropsLevel => "a full reset drops the card's level",
             Fault::LevelTwo => "a file with a level of 2 is taken as good",
+            Fault::LastByteLost => "a move of a write loses its last byte",
+            Fault::ShortRoomFilled => "a room that is refused is written all the same",
+            Fault::MemoryUnbounded => "a turn takes more memory than may be lent",
         }
     }
 }

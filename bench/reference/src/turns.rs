@@ -325,6 +325,10 @@ impl Transfer {
         match self.direction {
             Direction::Write => {
                 self.buffer.extend_from_slice(span(memory, address, count)?);
+                if self.fault == Some(Fault::LastByteLost) {
+                    self.buffer.pop();
+                    self.buffer.push(0);
+                }
             }
             Direction::Read => {
                 let place = span_mut(memory, address, count)?;
@@ -363,7 +367,9 @@ impl From<Line<'_>> for LineInHand {
 impl Slot {
     /// A turn of the engine over the memory lent for it.
     pub fn turn(&mut self, memory: &mut [u8]) -> Result<Turned, Refusal> {
-        accept_memory(memory)?;
+        if self.fault != Some(Fault::MemoryUnbounded) {
+            accept_memory(memory)?;
+        }
         let DatSide::Transfer(transfer) = &mut self.dat else {
             return Err(Refusal::NoTransfer);
         };

@@ -24,6 +24,7 @@ pub enum Number {
 
 impl Number {
     /// The number that the archive gave. It gives no other than these.
+    #[inline]
     pub(crate) fn from_raw(n: u32) -> Number {
         match n {
             0 => Number::Done,
@@ -53,6 +54,7 @@ pub struct Answer {
 }
 
 impl Answer {
+    #[inline]
     pub(crate) fn from_raw(a: RawAnswer) -> Answer {
         Answer {
             number: Number::from_raw(a.number),
@@ -61,6 +63,7 @@ impl Answer {
     }
 
     /// Was the step done? A step that was not has changed nothing.
+    #[inline]
     pub fn done(self) -> bool {
         self.number == Number::Done
     }

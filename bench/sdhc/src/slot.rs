@@ -25,10 +25,12 @@ pub enum DataError {
 }
 
 /// One slot of the controller. One caller at a time; it owns everything it needs and keeps no pointer to what it is lent.
+/// The buffer stands first, at the start of a line of the cache: blocks are copied faster from there.
 #[derive(Clone, Debug, PartialEq, Eq)]
+#[repr(C, align(64))]
 pub struct Slot {
-    record: Record,
     buffer: [u8; BLOCK],
+    record: Record,
 }
 
 impl Slot {
@@ -41,42 +43,57 @@ impl Slot {
     }
 
     /// Is the interrupt line up?
+    #[inline]
     pub fn line(&self) -> bool {
         unsafe { raw::sdhc_line(self.record) }
     }
 
     /// A register read of 1, 2 or 4 bytes, little-endian. `data` is filled only if the answer is 0.
+    #[inline]
     pub fn mmio_read(&mut self, offset: u64, data: &mut [u8]) -> Answer {
         let (place, width) = access(offset, data.len());
         let answer = Answer::from_raw(unsafe { raw::sdhc_read(&mut self.record, place, width) });
         if answer.done() {
-            data.copy_from_slice(&answer.value.to_le_bytes()[..data.len()]);
+            let value = answer.value.to_le_bytes();
+            match data {
+                [a] => *a = value[0],
+                [a, b] => [*a, *b] = [value[0], value[1]],
+                [a, b, c, d] => [*a, *b, *c, *d] = value,
+                // No other width is done.
+                _ => {}
+            }
         }
         answer
     }
 
     /// A register write of 1, 2 or 4 bytes, little-endian.
+    #[inline]
     pub fn mmio_write(&mut self, offset: u64, data: &[u8]) -> Answer {
         let (place, width) = access(offset, data.len());
-        let mut word = [0; 4];
-        let count = data.len().min(word.len());
-        word[..count].copy_from_slice(&data[..count]);
-        Answer::from_raw(unsafe {
-            raw::sdhc_write(&mut self.record, place, width, u32::from_le_bytes(word))
-        })
+        // Another width is refused whatever the value.
+        let value = match *data {
+            [a] => u32::from(a),
+            [a, b] => u32::from(u16::from_le_bytes([a, b])),
+            [a, b, c, d] => u32::from_le_bytes([a, b, c, d]),
+            _ => 0,
+        };
+        Answer::from_raw(unsafe { raw::sdhc_write(&mut self.record, place, width, value) })
     }
 
     /// A card comes in.
+    #[inline]
     pub fn card_in(&mut self) -> Answer {
         Answer::from_raw(unsafe { raw::sdhc_card_in(&mut self.record) })
     }
 
     /// The card goes out.
+    #[inline]
     pub fn card_out(&mut self) -> Answer {
         Answer::from_raw(unsafe { raw::sdhc_card_out(&mut self.record) })
     }
 
     /// The card answers the command that waits, with four words of which its response type takes none, one or four.
+    #[inline]
     pub fn respond(&mut self, response: Response, words: [u32; 4]) -> Answer {
         let [first, second, third, fourth] = words;
         Answer::from_raw(unsafe {
@@ -92,21 +109,25 @@ impl Slot {
     }
 
     /// The card's interrupt level.
+    #[inline]
     pub fn set_level(&mut self, up: bool) -> Answer {
         Answer::from_raw(unsafe { raw::sdhc_set_level(&mut self.record, up as u32) })
     }
 
     /// The busy of a response is over.
+    #[inline]
     pub fn busy_over(&mut self) -> Answer {
         Answer::from_raw(unsafe { raw::sdhc_busy_over(&mut self.record) })
     }
 
     /// The card reports an error on its data lines.
+    #[inline]
     pub fn data_error(&mut self, error: DataError) -> Answer {
         Answer::from_raw(unsafe { raw::sdhc_data_error(&mut self.record, error as u32) })
     }
 
     /// The card gives a block of a read.
+    #[inline]
     pub fn given(&mut self, block: &[u8]) -> Answer {
         Answer::from_raw(unsafe {
             raw::sdhc_given(
@@ -119,6 +140,7 @@ impl Slot {
     }
 
     /// The card takes a block of a write, into the first bytes of `room`.
+    #[inline]
     pub fn taken(&mut self, room: &mut [u8]) -> Answer {
         Answer::from_raw(unsafe {
             raw::sdhc_taken(
@@ -131,6 +153,7 @@ impl Slot {
     }
 
     /// A turn of the engine over the guest's memory, which stands for addresses from 0.
+    #[inline]
     pub fn turn(&mut self, memory: &mut [u8]) -> Answer {
         Answer::from_raw(unsafe {
             raw::sdhc_turn(
@@ -143,11 +166,13 @@ impl Slot {
     }
 
     /// The record, to look at or to keep.
+    #[inline]
     pub fn record(&self) -> &Record {
         &self.record
     }
 
     /// The buffer, to look at or to keep.
+    #[inline]
     pub fn buffer(&self) -> &[u8; BLOCK] {
         &self.buffer
     }
@@ -160,6 +185,7 @@ impl Slot {
 
 // An access in the archive's numbers. What does not fit them becomes their largest, which names no place, as it must; a width
 // that is not 1, 2 or 4 is refused by the archive itself.
+#[inline]
 fn access(offset: u64, length: usize) -> (u32, u32) {
     (
         offset.try_into().unwrap_or(u32::MAX),

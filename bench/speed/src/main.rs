@@ -16,7 +16,7 @@ use std::process::ExitCode;
 const USAGE: &str = "usage: speed [--rounds N]";
 
 /// Rounds in which each contender has its turn; the best of them counts.
-const USUAL_ROUNDS: usize = 25;
+const USUAL_ROUNDS: usize = 400;
 
 fn main() -> ExitCode {
     let words: Vec<String> = env::args().skip(1).collect();

@@ -143,7 +143,8 @@ abbrev pub env : (n : ℕ) → Blocks n → List (Ty × ℕ) → List (Ty × ℕ
 env zero bs E = E
 env (suc n) bs E = (tyInt w32, bs .0) ∷ env n (bs .1) E
 
-past : (d : Ty × ℕ) (n : ℕ) (bs : Blocks n) (E : List (Ty × ℕ)) (k : ℕ) → getD (env n bs E) (plus n k) d ≡ getD E k d
+-- a local after them is the same without them
+pub past : (d : Ty × ℕ) (n : ℕ) (bs : Blocks n) (E : List (Ty × ℕ)) (k : ℕ) → getD (env n bs E) (plus n k) d ≡ getD E k d
 past d zero bs E k = refl
 past d (suc n) bs E k = past d n (bs .1) E k
 

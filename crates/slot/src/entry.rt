@@ -1,4 +1,5 @@
-// The entries: each takes the record where it is kept, makes one step on it, and stores the record after it. They are the exports for
+// The entries: each takes the record where it is kept, makes one step on it, and stores the record after it if
+// the step is done. They are the exports for
 // C and Rust; the one-block buffer stands beside the record and is lent whole, so it cannot be too short.
 ghost use mathlib.Core.Path.{_≡_};
 ghost use denote.Ref.{now};
@@ -7,6 +8,7 @@ ghost use Rattle.slot.specs.Record.{slotOf, recordOf};
 ghost use Rattle.slot.specs.Step.{readOf, writeOf, inOf, outOf, respondOf, levelOf, busyOver, dataError, givenOf, takenOf, turnOf};
 use crate::record::Record;
 use crate::step::Answer;
+use crate::step::answer_of;
 
 // At start: no card, nothing waits, the DAT side is free.
 #[no_mangle]
@@ -40,10 +42,14 @@ pub extern "C" fn sdhc_read(slot: &mut Record, offset: u32, width: u32) -> Answe
 pub extern "C" fn sdhc_write(slot: &mut Record, offset: u32, width: u32, value: u32) -> Answer
     ensures { λ r. ⌜ (now (slot .exit) ≡ writeOf (now (slot .entry)) offset width value .after) × (r ≡ writeOf (now (slot .entry)) offset width value .answer) ⌝ }
 {
-    let stepped = Record::write(*slot, offset, width, value);
-    let next = stepped.after;
-    *slot = next;
-    stepped.answer
+    let got = Record::write(*slot, offset, width, value);
+    let answer = got.answer;
+    if answer.number() == 0 {
+        let after = got.slot;
+        let next = Record::of(after);
+        *slot = next;
+    }
+    answer_of(answer)
 }
 
 // A card comes in.
@@ -51,10 +57,14 @@ pub extern "C" fn sdhc_write(slot: &mut Record, offset: u32, width: u32, value: 
 pub extern "C" fn sdhc_card_in(slot: &mut Record) -> Answer
     ensures { λ r. ⌜ (now (slot .exit) ≡ inOf (now (slot .entry)) .after) × (r ≡ inOf (now (slot .entry)) .answer) ⌝ }
 {
-    let stepped = Record::card_in(*slot);
-    let next = stepped.after;
-    *slot = next;
-    stepped.answer
+    let got = Record::card_in(*slot);
+    let answer = got.answer;
+    if answer.number() == 0 {
+        let after = got.slot;
+        let next = Record::of(after);
+        *slot = next;
+    }
+    answer_of(answer)
 }
 
 // The card goes out.
@@ -62,10 +72,14 @@ pub extern "C" fn sdhc_card_in(slot: &mut Record) -> Answer
 pub extern "C" fn sdhc_card_out(slot: &mut Record) -> Answer
     ensures { λ r. ⌜ (now (slot .exit) ≡ outOf (now (slot .entry)) .after) × (r ≡ outOf (now (slot .entry)) .answer) ⌝ }
 {
-    let stepped = Record::card_out(*slot);
-    let next = stepped.after;
-    *slot = next;
-    stepped.answer
+    let got = Record::card_out(*slot);
+    let answer = got.answer;
+    if answer.number() == 0 {
+        let after = got.slot;
+        let next = Record::of(after);
+        *slot = next;
+    }
+    answer_of(answer)
 }
 
 // A response: 0 good, 1 timeout, 2 CRC, 3 end bit, 4 index, with its four words.
@@ -80,10 +94,14 @@ pub extern "C" fn sdhc_respond(
 ) -> Answer
     ensures { λ r. ⌜ (now (slot .exit) ≡ respondOf (now (slot .entry)) result first second third fourth .after) × (r ≡ respondOf (now (slot .entry)) result first second third fourth .answer) ⌝ }
 {
-    let stepped = Record::respond(*slot, result, first, second, third, fourth);
-    let next = stepped.after;
-    *slot = next;
-    stepped.answer
+    let got = Record::respond(*slot, result, first, second, third, fourth);
+    let answer = got.answer;
+    if answer.number() == 0 {
+        let after = got.slot;
+        let next = Record::of(after);
+        *slot = next;
+    }
+    answer_of(answer)
 }
 
 // The card's interrupt level: down at 0, else up.
@@ -91,10 +109,14 @@ pub extern "C" fn sdhc_respond(
 pub extern "C" fn sdhc_set_level(slot: &mut Record, up: u32) -> Answer
     ensures { λ r. ⌜ (now (slot .exit) ≡ levelOf (now (slot .entry)) up .after) × (r ≡ levelOf (now (slot .entry)) up .answer) ⌝ }
 {
-    let stepped = Record::set_level(*slot, up);
-    let next = stepped.after;
-    *slot = next;
-    stepped.answer
+    let got = Record::set_level(*slot, up);
+    let answer = got.answer;
+    if answer.number() == 0 {
+        let after = got.slot;
+        let next = Record::of(after);
+        *slot = next;
+    }
+    answer_of(answer)
 }
 
 // The busy of a response is over.
@@ -102,10 +124,14 @@ pub extern "C" fn sdhc_set_level(slot: &mut Record, up: u32) -> Answer
 pub extern "C" fn sdhc_busy_over(slot: &mut Record) -> Answer
     ensures { λ r. ⌜ (now (slot .exit) ≡ busyOver (now (slot .entry)) .after) × (r ≡ busyOver (now (slot .entry)) .answer) ⌝ }
 {
-    let stepped = Record::busy_over(*slot);
-    let next = stepped.after;
-    *slot = next;
-    stepped.answer
+    let got = Record::busy_over(*slot);
+    let answer = got.answer;
+    if answer.number() == 0 {
+        let after = got.slot;
+        let next = Record::of(after);
+        *slot = next;
+    }
+    answer_of(answer)
 }
 
 // A data error: 0 timeout, 1 CRC, 2 end bit.
@@ -113,10 +139,14 @@ pub extern "C" fn sdhc_busy_over(slot: &mut Record) -> Answer
 pub extern "C" fn sdhc_data_error(slot: &mut Record, number: u32) -> Answer
     ensures { λ r. ⌜ (now (slot .exit) ≡ dataError (now (slot .entry)) number .after) × (r ≡ dataError (now (slot .entry)) number .answer) ⌝ }
 {
-    let stepped = Record::data_error(*slot, number);
-    let next = stepped.after;
-    *slot = next;
-    stepped.answer
+    let got = Record::data_error(*slot, number);
+    let answer = got.answer;
+    if answer.number() == 0 {
+        let after = got.slot;
+        let next = Record::of(after);
+        *slot = next;
+    }
+    answer_of(answer)
 }
 
 // The card gives a block.
@@ -124,10 +154,14 @@ pub extern "C" fn sdhc_data_error(slot: &mut Record, number: u32) -> Answer
 pub extern "C" fn sdhc_given(slot: &mut Record, buffer: &mut [u8; 512], block: &[u8]) -> Answer
     ensures { λ r. ⌜ (now (slot .exit) ≡ givenOf (now (slot .entry)) (now (buffer .entry)) (now (block .entry)) .0 .after) × (r ≡ givenOf (now (slot .entry)) (now (buffer .entry)) (now (block .entry)) .0 .answer) × (now (buffer .exit) ≡ givenOf (now (slot .entry)) (now (buffer .entry)) (now (block .entry)) .1) ⌝ }
 {
-    let stepped = Record::given(*slot, buffer, block);
-    let next = stepped.after;
-    *slot = next;
-    stepped.answer
+    let got = Record::given(*slot, buffer, block);
+    let answer = got.answer;
+    if answer.number() == 0 {
+        let after = got.slot;
+        let next = Record::of(after);
+        *slot = next;
+    }
+    answer_of(answer)
 }
 
 // The card takes a block, into the first bytes of the lent room.
@@ -135,10 +169,14 @@ pub extern "C" fn sdhc_given(slot: &mut Record, buffer: &mut [u8; 512], block: &
 pub extern "C" fn sdhc_taken(slot: &mut Record, buffer: &[u8; 512], room: &mut [u8]) -> Answer
     ensures { λ r. ⌜ (now (slot .exit) ≡ takenOf (now (slot .entry)) (now (buffer .entry)) (now (room .entry)) .0 .after) × (r ≡ takenOf (now (slot .entry)) (now (buffer .entry)) (now (room .entry)) .0 .answer) × (now (room .exit) ≡ takenOf (now (slot .entry)) (now (buffer .entry)) (now (room .entry)) .1) ⌝ }
 {
-    let stepped = Record::taken(*slot, buffer, room);
-    let next = stepped.after;
-    *slot = next;
-    stepped.answer
+    let got = Record::taken(*slot, buffer, room);
+    let answer = got.answer;
+    if answer.number() == 0 {
+        let after = got.slot;
+        let next = Record::of(after);
+        *slot = next;
+    }
+    answer_of(answer)
 }
 
 // A turn of the engine, with the buffer and the lent memory.
@@ -146,8 +184,12 @@ pub extern "C" fn sdhc_taken(slot: &mut Record, buffer: &[u8; 512], room: &mut [
 pub extern "C" fn sdhc_turn(slot: &mut Record, buffer: &mut [u8; 512], mem: &mut [u8]) -> Answer
     ensures { λ r. ⌜ (now (slot .exit) ≡ turnOf (now (slot .entry)) (now (buffer .entry)) (now (mem .entry)) .0 .after) × (r ≡ turnOf (now (slot .entry)) (now (buffer .entry)) (now (mem .entry)) .0 .answer) × (now (buffer .exit) ≡ turnOf (now (slot .entry)) (now (buffer .entry)) (now (mem .entry)) .1) × (now (mem .exit) ≡ turnOf (now (slot .entry)) (now (buffer .entry)) (now (mem .entry)) .2) ⌝ }
 {
-    let stepped = Record::turn(*slot, buffer, mem);
-    let next = stepped.after;
-    *slot = next;
-    stepped.answer
+    let got = Record::turn(*slot, buffer, mem);
+    let answer = got.answer;
+    if answer.number() == 0 {
+        let after = got.slot;
+        let next = Record::of(after);
+        *slot = next;
+    }
+    answer_of(answer)
 }

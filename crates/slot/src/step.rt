@@ -2,8 +2,11 @@
 ghost use mathlib.Core.Path.{_≡_};
 ghost use denote.Ref.{now};
 ghost use Rattle.controller.specs.Slot.{powerOn, lineNow};
-ghost use Rattle.slot.specs.Record.{slotOf, recordOf};
-ghost use Rattle.slot.specs.Step.{answerOf, keeps, spelled, readOf, writeOf, inOf, outOf, respondOf, levelOf, busyOver, dataError, givenOf, takenOf, turnOf};
+ghost use Rattle.slot.specs.Record.{flagAt, slotOf, recordOf};
+ghost use Rattle.controller.specs.Access as access;
+ghost use Rattle.controller.specs.Card as card;
+ghost use Rattle.controller.specs.Data as side;
+ghost use Rattle.slot.specs.Step.{answerOf, keeps, readOf};
 use crate::record::Record;
 use registers::block::Reply;
 
@@ -41,22 +44,6 @@ fn keeps(r: Record, a: terms::Answer) -> Stepped
     }
 }
 
-// What an entry of the controller gives; a refusal leaves the record as it was, byte for byte.
-fn spelled(r: Record, s: controller::slot::Stepped) -> Stepped
-    ensures { λ z. ⌜ z ≡ spelled r s ⌝ }
-{
-    let answer = s.answer;
-    if answer.number() == 0 {
-        let slot = s.slot;
-        Stepped {
-            after: Record::of(slot),
-            answer: answer_of(answer),
-        }
-    } else {
-        keeps(r, answer)
-    }
-}
-
 impl Record {
     // At start: no card, nothing waits, the DAT side is free.
     pub fn power_on() -> Record
@@ -80,27 +67,34 @@ impl Record {
         keeps(self, answer)
     }
 
-    pub fn write(self, offset: u32, width: u32, value: u32) -> Stepped
-        ensures { λ r. ⌜ r ≡ writeOf self offset width value ⌝ }
+    pub fn write(self, offset: u32, width: u32, value: u32) -> controller::slot::Stepped
+        ensures { λ r. ⌜ r ≡ access.writeOf (slotOf self) offset width value ⌝ }
     {
-        spelled(self, self.slot().write(offset, width, value))
+        self.slot().write(offset, width, value)
     }
 
-    pub fn card_in(self) -> Stepped
-        ensures { λ r. ⌜ r ≡ inOf self ⌝ }
+    pub fn card_in(self) -> controller::slot::Stepped
+        ensures { λ r. ⌜ r ≡ card.inOf (slotOf self) ⌝ }
     {
-        spelled(self, self.slot().card_in())
+        self.slot().card_in()
     }
 
-    pub fn card_out(self) -> Stepped
-        ensures { λ r. ⌜ r ≡ outOf self ⌝ }
+    pub fn card_out(self) -> controller::slot::Stepped
+        ensures { λ r. ⌜ r ≡ card.outOf (slotOf self) ⌝ }
     {
-        spelled(self, self.slot().card_out())
+        self.slot().card_out()
     }
 
     // A response with its four words.
-    pub fn respond(self, result: u32, first: u32, second: u32, third: u32, fourth: u32) -> Stepped
-        ensures { λ r. ⌜ r ≡ respondOf self result first second third fourth ⌝ }
+    pub fn respond(
+        self,
+        result: u32,
+        first: u32,
+        second: u32,
+        third: u32,
+        fourth: u32,
+    ) -> controller::slot::Stepped
+        ensures { λ r. ⌜ r ≡ card.respondOf (slotOf self) result (record { first = first; second = second; third = third; fourth = fourth }) ⌝ }
     {
         let words = Reply {
             first,
@@ -108,46 +102,46 @@ impl Record {
             third,
             fourth,
         };
-        spelled(self, self.slot().respond(result, words))
+        self.slot().respond(result, words)
     }
 
     // The card's interrupt level: down at 0, else up.
-    pub fn set_level(self, up: u32) -> Stepped
-        ensures { λ r. ⌜ r ≡ levelOf self up ⌝ }
+    pub fn set_level(self, up: u32) -> controller::slot::Stepped
+        ensures { λ r. ⌜ r ≡ card.levelOf (slotOf self) (flagAt up) ⌝ }
     {
-        spelled(self, self.slot().set_level(up != 0))
+        self.slot().set_level(up != 0)
     }
 
-    pub fn busy_over(self) -> Stepped
-        ensures { λ r. ⌜ r ≡ busyOver self ⌝ }
+    pub fn busy_over(self) -> controller::slot::Stepped
+        ensures { λ r. ⌜ r ≡ side.busyOver (slotOf self) ⌝ }
     {
-        spelled(self, self.slot().busy_over())
+        self.slot().busy_over()
     }
 
-    pub fn data_error(self, number: u32) -> Stepped
-        ensures { λ r. ⌜ r ≡ dataError self number ⌝ }
+    pub fn data_error(self, number: u32) -> controller::slot::Stepped
+        ensures { λ r. ⌜ r ≡ side.dataError (slotOf self) number ⌝ }
     {
-        spelled(self, self.slot().data_error(number))
+        self.slot().data_error(number)
     }
 
     // The card gives a block.
-    pub fn given(self, buffer: &mut [u8; 512], block: &[u8]) -> Stepped
-        ensures { λ r. ⌜ (r, now (buffer .exit)) ≡ givenOf self (now (buffer .entry)) (now (block .entry)) ⌝ }
+    pub fn given(self, buffer: &mut [u8; 512], block: &[u8]) -> controller::slot::Stepped
+        ensures { λ r. ⌜ (r, now (buffer .exit)) ≡ side.givenOf (slotOf self) (now (buffer .entry)) (now (block .entry)) ⌝ }
     {
-        spelled(self, self.slot().given(buffer, block))
+        self.slot().given(buffer, block)
     }
 
     // The card takes a block, into the first bytes of the lent room.
-    pub fn taken(self, buffer: &[u8; 512], room: &mut [u8]) -> Stepped
-        ensures { λ r. ⌜ (r, now (room .exit)) ≡ takenOf self (now (buffer .entry)) (now (room .entry)) ⌝ }
+    pub fn taken(self, buffer: &[u8; 512], room: &mut [u8]) -> controller::slot::Stepped
+        ensures { λ r. ⌜ (r, now (room .exit)) ≡ side.takenOf (slotOf self) (now (buffer .entry)) (now (room .entry)) ⌝ }
     {
-        spelled(self, self.slot().taken(buffer, room))
+        self.slot().taken(buffer, room)
     }
 
     // A turn of the engine, with the buffer and the lent memory.
-    pub fn turn(self, buffer: &mut [u8; 512], mem: &mut [u8]) -> Stepped
-        ensures { λ r. ⌜ (r, now (buffer .exit), now (mem .exit)) ≡ turnOf self (now (buffer .entry)) (now (mem .entry)) ⌝ }
+    pub fn turn(self, buffer: &mut [u8; 512], mem: &mut [u8]) -> controller::slot::Stepped
+        ensures { λ r. ⌜ (r, now (buffer .exit), now (mem .exit)) ≡ side.turnOf (slotOf self) (now (buffer .entry)) (now (mem .entry)) ⌝ }
     {
-        spelled(self, self.slot().turn(buffer, mem))
+        self.slot().turn(buffer, mem)
     }
 }

@@ -14,6 +14,7 @@ pub enum Odd {
     TurnOverTheMost,
     FarAccess,
     SlotRestored,
+    SlotRespelled,
     AnyRecord,
     SurveyWell,
     SurveyError,
@@ -31,7 +32,7 @@ pub enum Odd {
 }
 
 impl Odd {
-    const ALL: [Odd; 23] = [
+    const ALL: [Odd; 24] = [
         Odd::RoomTooShort,
         Odd::RoomLonger,
         Odd::BlockOfOtherLength,
@@ -41,6 +42,7 @@ impl Odd {
         Odd::TurnOverTheMost,
         Odd::FarAccess,
         Odd::SlotRestored,
+        Odd::SlotRespelled,
         Odd::AnyRecord,
         Odd::SurveyWell,
         Odd::SurveyError,
@@ -68,6 +70,7 @@ impl Odd {
             Odd::TurnOverTheMost => "a turn over the most memory",
             Odd::FarAccess => "an access far outside of the block",
             Odd::SlotRestored => "a slot restored from its record",
+            Odd::SlotRespelled => "a slot restored from another spelling of its state",
             Odd::AnyRecord => "a slot restored from a record that no step makes",
             Odd::SurveyWell => "a survey of kind 0",
             Odd::SurveyError => "a survey of kind 1",

@@ -8,6 +8,7 @@ mod odd;
 mod pair;
 mod records;
 mod run;
+mod spelling;
 mod tables;
 
 use crate::chance::Chance;

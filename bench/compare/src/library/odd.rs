@@ -4,6 +4,7 @@
 use super::look::same_bytes;
 use super::met::{Met, Odd};
 use super::pair::Pair;
+use super::spelling::respelled;
 use crate::chance::Chance;
 use reference::Step;
 use runtext::kinds;
@@ -51,7 +52,7 @@ impl Odds<'_> {
             kinds::TURN => (step.kind, 6),
             _ => {
                 let any = [kinds::TAKEN, kinds::GIVEN, kinds::TURN, kinds::READ];
-                (self.chance.pick(&any), 24)
+                (self.chance.pick(&any), 16)
             }
         };
         if !self.chance.one_in(often) {
@@ -181,10 +182,15 @@ impl Odds<'_> {
         Ok(())
     }
 
-    // The slot that goes on is one made from what was kept of it.
+    // The slot that goes on is one made from what was kept of it, or from another record that
+    // spells the same state.
     fn restored(&mut self) {
         let slot = &mut self.pair.run.slot;
-        *slot = Slot::restored(*slot.record(), *slot.buffer());
-        self.met.count(Odd::SlotRestored);
+        let (record, odd) = match self.chance.bit() {
+            true => (*slot.record(), Odd::SlotRestored),
+            false => (respelled(self.chance, slot.record()), Odd::SlotRespelled),
+        };
+        *slot = Slot::restored(record, *slot.buffer());
+        self.met.count(odd);
     }
 }

@@ -65,14 +65,18 @@ fn one(run: &mut Run, step: &Step) -> Result<(), String> {
     Ok(())
 }
 
-// Every word of the block reads.
+// Every word of the block reads, and 0FCh bit 0 is the line.
 fn readable(slot: &mut Slot) -> Result<(), String> {
-    let refused = (0..0x100)
-        .step_by(4)
-        .find(|offset| !slot.mmio_read(*offset, &mut [0; 4]).done());
-    match refused {
-        Some(offset) => Err(format!("{offset:03X}h does not read")),
-        None => Ok(()),
+    let mut word = [0; 4];
+    for offset in (0..0x100).step_by(4) {
+        if !slot.mmio_read(offset, &mut word).done() {
+            return Err(format!("{offset:03X}h does not read"));
+        }
+    }
+    // The last word read is the one of 0FCh.
+    match slot.line() == (word[0] & 1 == 1) {
+        true => Ok(()),
+        false => Err("0FCh bit 0 is not the line".to_string()),
     }
 }
 

@@ -1,5 +1,6 @@
 -- `sdhc_given` meets its contract: the walk of `WithBlock.antt`, at `Record::given`. Assumes nothing.
-use Rattle.slot.specs.Step.{givenOf}
+use Rattle.controller.specs.Data.{givenOf}
+use Rattle.slot.specs.Record.{slotOf}
 use Rattle.slot.proofs.record.Record.given.Symbol as callee
 use Rattle.slot.proofs.record.Record.given.Met as callee-thm
 use Rattle.slot.proofs.WithBlock.{entry}
@@ -10,4 +11,6 @@ use Rattle.slot.proofs.entry.sdhc_given.Code as code
 pub sdhc-given-spec : {M : Type 1} → statement M
 unfolding code.routine
 sdhc-given-spec 𝓤 H 𝓜 𝓖 𝓡 =
-    entry givenOf 𝓤 H 𝓜 𝓖 𝓡 code.env name callee.name callee.routine (code.unfolded 𝓤 H 𝓜 𝓡) code.calls-slot·record·Record·given (callee-thm.met 𝓤 H 𝓜 𝓖 𝓡)
+    entry (λ r. givenOf (slotOf r)) 𝓤 H 𝓜 𝓖 𝓡 code.env name callee.name callee.routine (code.unfolded 𝓤 H 𝓜 𝓡)
+    code.calls-slot·record·Record·given (callee-thm.met 𝓤 H 𝓜 𝓖 𝓡)
+    (code.calls-terms·Answer·number, code.calls-slot·record·Record·of, code.calls-slot·step·answer-of)

@@ -1,8 +1,8 @@
--- `entry::sdhc_read` meets its contract: the walk of `WithNumbers.antt`, at `Record::read`. Assumes nothing.
+-- `entry::sdhc_read` meets its contract: the walk of `Reading.antt`, at `Record::read`. Assumes nothing.
 use Rattle.slot.specs.Step.{readOf}
 use Rattle.slot.proofs.record.Record.read.Symbol as callee
 use Rattle.slot.proofs.record.Record.read.Met as callee-thm
-use Rattle.slot.proofs.WithNumbers.{entry}
+use Rattle.slot.proofs.Reading.{entry}
 use Rattle.slot.proofs.entry.sdhc_read.Key.{name}
 use Rattle.slot.proofs.entry.sdhc_read.Statement.{statement}
 use Rattle.slot.proofs.entry.sdhc_read.Code as code

@@ -1,5 +1,6 @@
 -- `sdhc_turn` meets its contract: the walk of `WithMem.antt`, at `Record::turn`. Assumes nothing.
-use Rattle.slot.specs.Step.{turnOf}
+use Rattle.controller.specs.Data.{turnOf}
+use Rattle.slot.specs.Record.{slotOf}
 use Rattle.slot.proofs.record.Record.turn.Symbol as callee
 use Rattle.slot.proofs.record.Record.turn.Met as callee-thm
 use Rattle.slot.proofs.WithMem.{entry}
@@ -10,4 +11,6 @@ use Rattle.slot.proofs.entry.sdhc_turn.Code as code
 pub sdhc-turn-spec : {M : Type 1} → statement M
 unfolding code.routine
 sdhc-turn-spec 𝓤 H 𝓜 𝓖 𝓡 =
-    entry turnOf 𝓤 H 𝓜 𝓖 𝓡 code.env name callee.name callee.routine (code.unfolded 𝓤 H 𝓜 𝓡) code.calls-slot·record·Record·turn (callee-thm.met 𝓤 H 𝓜 𝓖 𝓡)
+    entry (λ r. turnOf (slotOf r)) 𝓤 H 𝓜 𝓖 𝓡 code.env name callee.name callee.routine (code.unfolded 𝓤 H 𝓜 𝓡)
+    code.calls-slot·record·Record·turn (callee-thm.met 𝓤 H 𝓜 𝓖 𝓡)
+    (code.calls-terms·Answer·number, code.calls-slot·record·Record·of, code.calls-slot·step·answer-of)

@@ -4,8 +4,4 @@ use Rattle.slot.proofs.record.Record.card_out.Statement.{statement}
 use Rattle.slot.proofs.record.Record.card_out.Tie as tie
 
 pub card-out-spec : {M : Type 1} → statement M
-card-out-spec =
-    tie.close
-    (tie.spec
-    (λ c κs. tt) (λ c κs. tt) (λ c κs. tt)
-    (λ c. rw (c .spelled .ensures, c .before .card-out .ensures, c .before .before .slot .ensures)))
+card-out-spec = tie.close (tie.spec (λ c κs. tt) (λ c κs. tt) (λ c. rw (c .card-out .ensures, c .before .slot .ensures)))
