@@ -11,38 +11,26 @@ use Rattle.registers.specs.Place.{placeOf, fitsOf, editOf, aimed, targetOf}
 use Rattle.registers.specs.Word.{inUse}
 use Rattle.registers.specs.Block.{busPower, busClock, powerOn}
 use Rattle.registers.specs.Bench.{quiet}
-use Rattle.registers.specs.declared.block.Registers.{Registers}
-use Rattle.registers.specs.declared.place.Word.{Word}
-use Rattle.registers.specs.declared.place.Place.{Place}
-use Rattle.registers.specs.declared.place.Place.the-variants.{Nowhere, Here}
-use Rattle.registers.specs.declared.place.Target.{Target}
 use Rattle.registers.specs.declared.place.Target.the-variants as target
 use Rattle.registers.proofs.Tests.{both, either, lacks, eq-test, lt-test, lt-fails}
 use Rattle.registers.proofs.Exactly.{Legal, read-1, place-lies}
-use Rattle.engine.specs.Block.{mayGive, mayTake}
-use Rattle.engine.specs.declared.transfer.Transfer.{Transfer}
-use Rattle.engine.specs.declared.transfer.Dat.{Dat}
+use Rattle.engine.proofs.Exactly as engine
+pub use Rattle.engine.proofs.Exactly.{by-test}
 use Rattle.engine.specs.declared.transfer.Dat.the-variants as dat
 use Rattle.controller.specs.Slot.{useOf}
 use Rattle.controller.specs.Command.{requestOf, isAbort, usesDat}
 use Rattle.controller.specs.Card.{fitsError}
-use Rattle.controller.specs.Rows.{Unnamed, Unaimed, Crosses, Dark, Resting, rests, Erring, runs, Responding, good, fails, Giving, gives, Taking, takes}
+use Rattle.controller.specs.Rows.{NamesNoPlace, WritesNoPlace, Crosses, Dark, Resting, rests, Erring, runs, Responding, good, fails, Giving, gives, Taking, takes}
 use Rattle.controller.specs.Steps.{World}
-use Rattle.controller.specs.declared.slot.Command.{Command}
 use Rattle.controller.specs.declared.slot.Command.the-variants as command
-use Rattle.controller.specs.declared.slot.Slot.{Slot}
-
--- a test decides
-pub by-test : {A : Type 0} (P : A → Type 0) (t : Bool) {a b : A} → (t ≡ true → P a) → (t ≡ false → P b) → P (cond t a b)
-by-test P true f g = f refl
-by-test P false f g = g refl
+use Rattle.controller.proofs.Names.{Dat, Command, Slot, Registers, Place, Nowhere, Here, Target, Word}
 
 -- ---- the accesses
 
 -- what a place says of the access that names it, or names none
 pub data Sits (offset width : ℕ) : Place → Type 0 where
-  nowhere : Unnamed offset width → Sits offset width Nowhere
-  here : (Unnamed offset width → ⊥) → (word : Word) → Sits offset width (Here word (offset % 4) width)
+  nowhere : NamesNoPlace offset width → Sits offset width Nowhere
+  here : (NamesNoPlace offset width → ⊥) → (word : Word) → Sits offset width (Here word (offset % 4) width)
 
 -- "width not 1, 2 or 4"
 illegal : (width : ℕ) → (Legal width → ⊥) ↔ ((width ≢ 1) × (width ≢ 2) × (width ≢ 4))
@@ -57,20 +45,20 @@ sits offset width = go (placeOf offset width) refl
     go (Here word lane n) e =
         let l = place-lies offset width word lane n e in
         let one = read-1 powerOn (quiet false) offset width in
-        let named : Unnamed offset width → ⊥ = λ u. let x : _≡_ {A = ℕ} 0 1 = rw e at (one .1 (⊎-elim (λ h. inl (illegal width .1 h)) inr u)) in omega arith in
+        let named : NamesNoPlace offset width → ⊥ = λ u. let x : _≡_ {A = ℕ} 0 1 = rw e at (one .1 (⊎-elim (λ h. inl (illegal width .1 h)) inr u)) in omega arith in
         rw (← l .start, ← l .size) (here named word)
 
 -- what a target says of the write that aims at it, or aims nowhere
 pub data Aims (offset width value : ℕ) : Target → Type 0 where
-  astray : Unaimed offset width value → Aims offset width value target.Nowhere
-  aims : (Unaimed offset width value → ⊥) → (word : Word) → Aims offset width value (target.At word (editOf (offset % 4) width value))
+  astray : WritesNoPlace offset width value → Aims offset width value target.Nowhere
+  aims : (WritesNoPlace offset width value → ⊥) → (word : Word) → Aims offset width value (target.At word (editOf (offset % 4) width value))
 
 -- "value too big for the width"
 pub aimed-at : (offset width value : ℕ) → Aims offset width value (targetOf offset width value)
 unfolding targetOf
 aimed-at offset width value = place (sits offset width)
   where
-    fit : (word : Word) → (Unnamed offset width → ⊥) → (t : Bool) → fitsOf width value ≡ t
+    fit : (word : Word) → (NamesNoPlace offset width → ⊥) → (t : Bool) → fitsOf width value ≡ t
         → Aims offset width value (cond t (target.At word (editOf (offset % 4) width value)) target.Nowhere)
     fit word n true e = aims (⊎-elim n (λ b. let s = lt-test value (2 ^ (8 * width)) .0 e in omega arith)) word
     fit word n false e = astray (inr (lt-fails value (2 ^ (8 * width)) .0 e))
@@ -173,31 +161,22 @@ responding-test s n = (to (s .command) refl, back)
 
 -- ---- the blocks
 
--- a running transfer that passes a test
-abbrev pub running : (Transfer → Bool) → Dat → Bool
-running f dat.Free = false
-running f (dat.Busy answered) = false
-running f (dat.Runs t) = f t
-running f dat.Stuck = false
-running f (dat.Halted way) = false
-
-runner : (f : Transfer → Bool) (d : Dat) → running f d ≡ true → (t : Transfer) × (d ≡ dat.Runs t) × (f t ≡ true)
-runner f dat.Free h = absurd (false≢true h)
-runner f (dat.Busy answered) h = absurd (false≢true h)
-runner f (dat.Runs t) h = (t, refl, h)
-runner f dat.Stuck h = absurd (false≢true h)
-runner f (dat.Halted way) h = absurd (false≢true h)
-
--- "running read, its response in, buffer empty, blocks left"
-pub giving-test : (w : World) → (running (λ t. mayGive t (length (w .buffer))) (w .slot .dat) ≡ true) ↔ Giving w
-giving-test w = (λ h. let (t, e, m) = runner _ (w .slot .dat) h in gives e m, back)
+-- "running read, its response in, buffer empty, blocks left", as the engine says it
+pub giving : (w : World) → Giving w ↔ ((size : ℕ) × engine.Gives (length (w .buffer)) (w .slot .dat) size)
+giving w = (to, λ (size, g). back refl g)
   where
-    back : Giving w → running (λ t. mayGive t (length (w .buffer))) (w .slot .dat) ≡ true
-    back (gives e m) = rw e m
+    to : Giving w → (size : ℕ) × engine.Gives (length (w .buffer)) (w .slot .dat) size
+    to (gives {t} e m) = (_, rw (← e) at (engine.may-give t (length (w .buffer)) m))
 
--- "running write, buffer full"
-pub taking-test : (w : World) → (running (λ t. mayTake t (length (w .buffer))) (w .slot .dat) ≡ true) ↔ Taking w
-taking-test w = (λ h. let (t, e, m) = runner _ (w .slot .dat) h in takes e m, back)
+    back : {d : Dat} {size : ℕ} → w .slot .dat ≡ d → engine.Gives (length (w .buffer)) d size → Giving w
+    back e (engine.gives way a h l) = gives e (engine.gives-may (engine.gives way a h l))
+
+-- "running write, buffer full", as the engine says it
+pub taking : (w : World) → Taking w ↔ ((size : ℕ) × engine.Takes (length (w .buffer)) (w .slot .dat) size)
+taking w = (to, λ (size, g). back refl g)
   where
-    back : Taking w → running (λ t. mayTake t (length (w .buffer))) (w .slot .dat) ≡ true
-    back (takes e m) = rw e m
+    to : Taking w → (size : ℕ) × engine.Takes (length (w .buffer)) (w .slot .dat) size
+    to (takes {t} e m) = (_, rw (← e) at (engine.may-take t (length (w .buffer)) m))
+
+    back : {d : Dat} {size : ℕ} → w .slot .dat ≡ d → engine.Takes (length (w .buffer)) d size → Taking w
+    back e (engine.takes way h) = takes e (engine.takes-may (engine.takes way h))

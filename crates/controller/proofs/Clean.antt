@@ -2,26 +2,19 @@
 use mathlib.Core.Bool.{Bool}
 use Rattle.registers.specs.Word.{lowBits}
 use Rattle.registers.specs.Block.{withReply, unplugged}
-use Rattle.registers.specs.declared.block.Registers.{Registers}
-use Rattle.registers.specs.declared.block.Reply.{Reply}
-use Rattle.registers.specs.declared.interrupt.Event.{Event}
-use Rattle.registers.specs.declared.interrupt.Event.the-variants.{CommandComplete, CardInsertion, CardRemoval, TransferComplete, DmaInterrupt, AdmaError}
-use Rattle.registers.specs.declared.place.Taker.the-variants.{Order}
-use Rattle.registers.specs.declared.place.Word.the-variants.{Takes}
 use Rattle.registers.proofs.Derived.{Within, kept-raise}
 use Rattle.registers.proofs.Reserved as reserved
 use Rattle.registers.proofs.Reserved.{Clean, setup-clean, adma-clean, interrupts-clean, clean-take, clean-unplug}
-use Rattle.engine.specs.declared.transfer.Dat.{Dat}
-use Rattle.engine.specs.declared.transfer.Outcome.{Outcome}
-use Rattle.engine.specs.declared.transfer.Outcome.the-variants.{Goes, Completes, Fails}
+use Rattle.engine.proofs.Exactly.{stays, fetched}
 use Rattle.controller.specs.Slot.{powerOn, raisedAt, factsOf}
 use Rattle.controller.specs.Card.{errorEvent}
 use Rattle.controller.specs.Data.{countsOf, countedDown, outcomeAt, ringAt}
 use Rattle.controller.specs.Steps.{Step, World, Result, stepOf}
-use Rattle.controller.specs.declared.slot.Slot.{Slot}
+use Rattle.controller.proofs.Names.{Dat, Outcome, Goes, Completes, Fails, Slot, Registers, Reply, Event, CommandComplete, CardInsertion, CardRemoval}
+use Rattle.controller.proofs.Names.{TransferComplete, DmaInterrupt, AdmaError, Order, Takes}
 use Rattle.controller.proofs.Causes.{by-test}
 use Rattle.controller.proofs.Masks.{fallen-within, Bytes, fetch-low}
-use Rattle.controller.proofs.Effects.{Reached, stays, fetched, Effect, same, stores, issues, comes, leaves, replies, errs, levels, tells, passes, turns}
+use Rattle.controller.proofs.Effects.{Reached, Effect, same, stores, issues, comes, leaves, replies, errs, levels, tells, passes, turns}
 use Rattle.controller.proofs.Given.{Given, done, kept, given}
 
 -- "The power-on value of the whole register block": at start

@@ -1,37 +1,20 @@
 -- What a step that is done makes of the slot: one list of effects for all entries; and the events that turn on one test alone. Assumes nothing.
-use Prim.Native.Nat.{ℕ, _≤_}
+use Prim.Native.Nat.{ℕ}
 use mathlib.Core.Path.{_≡_, refl}
 use mathlib.Core.Bool.{Bool, true, false, cond, not, _||_}
-use lib.ListN.{length}
 use lib.Dec.{eqb}
-use Rattle.terms.specs.declared.Answer.the-variants.{Done, OutOfTurn}
-use Rattle.terms.specs.declared.ByteCount.{ByteCount}
-use Rattle.table.specs.Memory.{memoryLimit}
-use Rattle.table.specs.Fetch.{fetchOf}
 use Rattle.registers.specs.Block.{unplugged}
-use Rattle.registers.specs.declared.block.Reply.{Reply}
-use Rattle.registers.specs.declared.interrupt.Event.{Event}
-use Rattle.registers.specs.declared.interrupt.Event.the-variants.{CardInsertion, CardRemoval, TransferComplete}
-use Rattle.registers.specs.declared.place.Edit.{Edit}
-use Rattle.registers.specs.declared.place.Word.{Word}
-use Rattle.registers.specs.declared.reset.Resets.{Resets}
-use Rattle.engine.specs.Turn.{seenTable}
-use Rattle.engine.specs.declared.transfer.Dat.{Dat}
+use Rattle.engine.proofs.Exactly.{Reaches}
 use Rattle.engine.specs.declared.transfer.Dat.the-variants as dat
-use Rattle.engine.specs.declared.transfer.Outcome.{Outcome}
-use Rattle.engine.specs.declared.turn.Turned.{Turned}
 use Rattle.controller.specs.Slot.{haltedCommand, haltedDat, raisedAt, withSides, steppedAs}
 use Rattle.controller.specs.Command.{wouldBe, issueOf}
 use Rattle.controller.specs.Access.{storeOf}
 use Rattle.controller.specs.Card.{fitsError, inOf, outOf, levelOf, goodOf, failedOf, respondTo, respondOf}
 use Rattle.controller.specs.Data.{passedOf, busyOverAt, busyOver, dataEvent, dataErrorAt, dataError, turnedOf}
 use Rattle.controller.specs.Steps.{World}
-use Rattle.controller.specs.declared.command.Request.{Request}
-use Rattle.controller.specs.declared.slot.Waiting.{Waiting}
-use Rattle.controller.specs.declared.slot.Command.{Command}
 use Rattle.controller.specs.declared.slot.Command.the-variants as command
-use Rattle.controller.specs.declared.slot.Slot.{Slot}
-use Rattle.controller.specs.declared.slot.Stepped.{Stepped}
+use Rattle.controller.proofs.Names.{Done, OutOfTurn, Dat, Outcome, Turned, Request, Command, Slot, Stepped, Waiting, Reply, Event}
+use Rattle.controller.proofs.Names.{CardInsertion, CardRemoval, TransferComplete, Edit, Word, Resets}
 use Rattle.controller.proofs.Causes.{by-test, resting, erring, responding}
 
 -- does a use of the DAT side await its response?
@@ -43,9 +26,8 @@ awaiting dat.Stuck = false
 awaiting (dat.Halted way) = false
 
 -- 058h after a turn: as it was, or as a fetch leaves it
-pub data Reached (w : World) : ℕ → Type 0 where
-  stays : Reached w (w .slot .registers .adma .low)
-  fetched : length (w .memory) ≤ memoryLimit → (owed : ByteCount) → Reached w (seenTable (fetchOf (w .memory) (w .slot .registers .adma .low) owed))
+abbrev pub Reached : World → ℕ → Type 0
+Reached w n = Reaches (w .slot .registers .adma .low) (w .memory) n
 
 -- "In sets Card Insertion."
 abbrev pub cameOf : Slot → Slot

@@ -4,13 +4,13 @@ use native.Mathlib.Omega.{arith}
 use mathlib.Core.Path.{_≡_, refl, sym, _∙_}
 use mathlib.Core.Logic.{_↔_, _≢_}
 use Rattle.terms.specs.Answers.{numberOf}
-use Rattle.terms.specs.declared.Answer.{Answer}
-use Rattle.terms.specs.declared.Answer.the-variants.{NoPlace, DatInhibited, CommandInhibited, DatInUse, Unpowered, NotCarried, OutOfTurn, WrongLength, NotYet, NoTransfer, MemoryTooLarge}
+use Rattle.controller.proofs.Names.{Answer, OutOfTurn, NoPlace, DatInhibited, CommandInhibited, DatInUse, Unpowered, NotCarried, WrongLength, NotYet}
+use Rattle.controller.proofs.Names.{NoTransfer, MemoryTooLarge}
 use Rattle.terms.proofs.Answers.{refusal-value, told-apart}
 use Rattle.controller.specs.Steps.{Step, World, Result, stepOf}
 use Rattle.controller.specs.Rows.{Row1, Row2, Row3, Row4, Row5, Row6, Row7, Row8, Row9, Row10, Row11}
 use Rattle.controller.proofs.Given.{RowOf, Given, done, kept, given}
-use Rattle.controller.proofs.Numbers.{number-of, bounds}
+use Rattle.controller.proofs.Numbers.{number-of}
 
 -- a refusal is told by its number
 refusal-named : (a b : Answer) → numberOf a ≢ 0 → numberOf b ≡ numberOf a → b ≡ a
@@ -21,7 +21,7 @@ refusal-named a b z h = told-apart b a h (refusal-value b (λ y. z (sym h ∙ y)
 module _ (w : World) (e : Step) where
   -- any refusal, by its name
   pub exactly : (a : Answer) → numberOf a ≢ 0 → (numberOf (stepOf w e .answer) ≡ numberOf a) ↔ RowOf a w e
-  exactly a z = (go (given w e), number-of w e a)
+  exactly a z = (go (given w e), λ r. number-of w e a r .0)
     where
       go : {r : Result} → Given w e r → numberOf (r .answer) ≡ numberOf a → RowOf a w e
       go (done x) h = absurd (z (sym h))
@@ -29,7 +29,7 @@ module _ (w : World) (e : Step) where
 
   -- 0: "done", where none of the rows is met
   pub row-0 : (numberOf (stepOf w e .answer) ≡ 0) ↔ ((a : Answer) → RowOf a w e → ⊥)
-  row-0 = (λ h a r. let m = number-of w e a r in let k = bounds w e a r in omega arith, go (given w e))
+  row-0 = (λ h a r. let m = number-of w e a r in omega arith, go (given w e))
     where
       go : {r : Result} → Given w e r → ((a : Answer) → RowOf a w e → ⊥) → numberOf (r .answer) ≡ 0
       go (done x) n = refl
@@ -85,4 +85,4 @@ module _ (w : World) (e : Step) where
     where
       go : {r : Result} → Given w e r → numberOf (r .answer) < 12
       go (done x) = omega arith
-      go (kept {a} c) = bounds w e a c .1
+      go (kept {a} c) = number-of w e a c .2

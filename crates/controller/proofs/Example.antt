@@ -7,7 +7,8 @@ use Rattle.terms.specs.Answers.{numberOf, valueOf}
 use Rattle.table.specs.Bench.{memory}
 use Rattle.table.specs.Line.{byteOf, lengthOf, addressOf, flagsOf}
 use Rattle.table.specs.Fetch.{fetchOf}
-use Rattle.registers.specs.Bits.{bitOf, without, put, unitOf}
+use Rattle.terms.specs.Flag.{unitOf}
+use Rattle.registers.specs.Bits.{bitOf, without, put}
 use Rattle.registers.specs.Place.{words, find, wordAt, placeOf, onesOf, cutOf, lanesOf, placedOf, targetOf, guarded}
 use Rattle.registers.specs.Interrupt.{shownStatus, lineOf}
 use Rattle.registers.specs.Word.{stays}
@@ -84,5 +85,5 @@ said =
 
 -- the run of the paper prints the paper's output
 pub example : output start steps ≡ said
-unfolding output start steps said stepOf byteOf lengthOf addressOf flagsOf fetchOf bitOf without put unitOf words find wordAt placeOf onesOf cutOf lanesOf placedOf targetOf guarded shownStatus lineOf stays resetWith access.shownOf access.takeFrom access.takeOf ending settled seen further doneRest movingOf runningOf stagedOf mayTake takeOf requestOf commandStep respondOf
+unfolding output start steps said stepOf byteOf lengthOf addressOf flagsOf fetchOf bitOf without put words find wordAt placeOf onesOf cutOf lanesOf placedOf targetOf guarded shownStatus lineOf stays resetWith access.shownOf access.takeFrom access.takeOf ending settled seen further doneRest movingOf runningOf stagedOf mayTake takeOf requestOf commandStep respondOf
 example = refl

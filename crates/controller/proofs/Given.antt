@@ -1,50 +1,35 @@
 -- Every step is done, or a row of the table refuses it and nothing is changed: the cases of every entry, said once. Assumes nothing.
-use Prim.Native.Nat.{ℕ, _+_, _%_, _≤_}
+use Prim.Native.Nat.{ℕ, _%_, _≤_, _<_}
 use mathlib.Core.Path.{_≡_, refl, sym, _∙_}
 use mathlib.Core.Logic.{_≢_, Iff·rfl}
 use mathlib.Core.List.{List, []}
 use mathlib.Core.Bool.{Bool, true, false, not, _&&_, true≢false, false≢true}
 use lib.ListN.{length}
-use lib.Dec.{eqb, ltb}
-use borrow.Author.Tests.{eqb-true, eqb-false, ltb-true, ltb-false, not-false}
-use Rattle.terms.specs.Counts.{bytes, fewer, less, least}
-use Rattle.terms.specs.declared.Answer.{Answer}
-use Rattle.terms.specs.declared.Answer.the-variants.{Done, NoPlace, DatInhibited, CommandInhibited, DatInUse, Unpowered, NotCarried, OutOfTurn, WrongLength, NotYet, NoTransfer, MemoryTooLarge, LimitTooHigh, LineRefused}
-use Rattle.terms.specs.declared.BlockCount.{BlockCount}
-use Rattle.terms.specs.declared.ByteCount.{ByteCount}
-use Rattle.table.specs.Memory.{memoryLimit, inMemory, tooLarge}
-use Rattle.table.specs.Fetch.{moveState, fetchOf}
+use borrow.Author.Tests.{not-false}
+use Rattle.terms.specs.Counts.{fewer}
+use Rattle.table.specs.Memory.{memoryLimit}
 use Rattle.registers.specs.Place.{editOf, issues, guarded}
 use Rattle.registers.specs.Word.{inUse, inhibits}
 use Rattle.registers.specs.Block.{busPower, busClock}
 use Rattle.registers.specs.Access.{readAt}
 use Rattle.registers.specs.Reset.{resetsOf}
-use Rattle.registers.specs.declared.block.Registers.{Registers}
-use Rattle.registers.specs.declared.place.Place.{Place}
-use Rattle.registers.specs.declared.place.Target.{Target}
 use Rattle.registers.proofs.Tests.{both, fails}
-use Rattle.engine.specs.Buffer.{blockOf, heldOf, readyOf}
-use Rattle.engine.specs.Block.{keptAs, mayGive, gaveOf, giveOf, givenOf, mayTake, emptiedOf, tookOf, takeOf, takenOf}
-use Rattle.engine.specs.Turn.{refusedAs, turnedAs, seenTable, seenInt, seenNext, fetchedOf, onwardOf, doneInt, carryOf, movedOf, movingOf, answeredOf, runningOf, stagedOf}
+use Rattle.engine.specs.Block.{gaveOf, emptiedOf, tookOf}
+use Rattle.engine.specs.Turn.{turnedAs}
 use Rattle.engine.specs.Transfer.{datOf}
-use Rattle.engine.specs.declared.transfer.Stage.{Stage}
-use Rattle.engine.specs.declared.transfer.Stage.the-variants.{Fetching, Moving, Stopped}
-use Rattle.engine.specs.declared.transfer.Transfer.{Transfer}
-use Rattle.engine.specs.declared.transfer.Dat.{Dat}
+use Rattle.engine.proofs.Exactly as engine
 use Rattle.engine.specs.declared.transfer.Dat.the-variants as dat
-use Rattle.engine.specs.declared.block.Passed.{Passed}
-use Rattle.engine.specs.declared.turn.Turned.{Turned}
-use Rattle.engine.specs.declared.transfer.Next.{Next}
-use Rattle.engine.specs.declared.transfer.Next.the-variants.{Fetch, Move, Stop, Finish, Fail}
 use Rattle.controller.specs.Data.{passedAs, turnedOf}
 use Rattle.controller.specs.Slot.{useOf, occupied, factsOf, steppedAs}
 use Rattle.controller.specs.Command.{requestOf, notCarried, judged, commandStep}
 use Rattle.controller.specs.Access.{writeAt}
 use Rattle.controller.specs.Steps.{Step, read, write, card-in, card-out, response, block-given, block-taken, busy-over, data-error, level, turn, World, Result, plain, stepOf, lent}
-use Rattle.controller.specs.Rows.{Would, Commands, Row1, Row2, Row3, Row4, Row5, Row6, Row7, Row8, Row9, Row10, Row11, reads, writes, guards, waits, crosses, dark, uncarried, already-in, already-out, no-response, no-giving, no-taking, no-rest, no-error, no-card, other-length, small-room, free, busy, stopped, stuck, halted, due, awaits, no-bytes, idles, too-large}
-use Rattle.controller.specs.declared.slot.Stepped.{Stepped}
-use Rattle.controller.proofs.Effects.{awaiting, Reached, stays, fetched, Effect, same, stores, passes, turns, Hinges, in-hinges, out-hinges, level-hinges, busy-hinges, error-hinges, response-hinges}
-use Rattle.controller.proofs.Causes.{by-test, Sits, nowhere, here, sits, Aims, astray, aims, aimed-at, crosses-test, dark-test, resting-test, erring-test, responding-test, running, giving-test, taking-test}
+use Rattle.controller.specs.Rows.{asWritten, Commands, Row1, Row2, Row3, Row4, Row5, Row6, Row7, Row8, Row9, Row10, Row11, reads, writes, guards, waits, crosses, dark, uncarried, already-in, already-out, no-response, no-giving, no-taking, no-rest, no-error, no-card, other-length, small-room, Idling, free, busy, stopped, stuck, halted, due, awaits, no-bytes, idles, too-large}
+use Rattle.controller.proofs.Names.{BlockCount, ByteCount, Answer, Done, OutOfTurn, NoPlace, DatInhibited, CommandInhibited, DatInUse, Unpowered}
+use Rattle.controller.proofs.Names.{NotCarried, WrongLength, NotYet, NoTransfer, MemoryTooLarge, LimitTooHigh, LineRefused}
+use Rattle.controller.proofs.Names.{Transfer, Dat, Next, Fetch, Move, Stop, Finish, Fail, Turned, Passed, Stepped, Registers, Place, Target}
+use Rattle.controller.proofs.Effects.{awaiting, Effect, same, stores, passes, turns, Hinges, in-hinges, out-hinges, level-hinges, busy-hinges, error-hinges, response-hinges}
+use Rattle.controller.proofs.Causes.{by-test, Sits, nowhere, here, sits, Aims, astray, aims, aimed-at, crosses-test, dark-test, resting-test, erring-test, responding-test, giving, taking}
 
 -- the row that gives an answer: "Given exactly when"; no row of these entries is done, 12 or 17
 abbrev pub RowOf : Answer → World → Step → Type 0
@@ -93,7 +78,7 @@ given-command w offset width value c =
     (λ p. kept (dark c o clear (dark-test r .0 p)))))
   where
     r : Registers
-    r = Would (w .slot) offset width value
+    r = asWritten (w .slot) offset width value
 
     P : Answer → Type 0
     P a = Given w (write offset width value) (plain w (judged (w .slot) r (requestOf r) a))
@@ -133,116 +118,62 @@ follows t left owed held (Fail state) a = absurd (false≢true a)
 -- ---- the blocks: "7 before 8"
 
 given-given : (w : World) (block : List ℕ) → Given w (block-given block) (stepOf w (block-given block))
-unfolding stepOf giveOf
-given-given w block = go (w .slot .dat) refl
+unfolding stepOf
+given-given w block = go (engine.given-case (w .slot .dat) (w .buffer) block)
   where
-    P : Passed × List ℕ → Type 0
-    P r =
-        Given w (block-given block)
+    other : {d : Dat} {size : ℕ} → w .slot .dat ≡ d → engine.Gives (length (w .buffer)) d size → length block ≢ size → Row8 w (block-given block)
+    other e (engine.gives way a h l) n = other-length e (engine.gives-may (engine.gives way a h l)) n
+
+    go : {r : Passed × List ℕ} → engine.Given (w .slot .dat) (w .buffer) block r
+        → Given w (block-given block)
         (let s = passedAs (w .slot) (r .0) in record { answer = s .answer; world = record { slot = s .slot; buffer = r .1; memory = w .memory }; room = [] })
-
-    late : (d : Dat) → w .slot .dat ≡ d → running (λ t. mayGive t (length (w .buffer))) d ≡ false → P (keptAs d OutOfTurn, w .buffer)
-    late d e h = kept (no-giving (fails _ (giving-test w) .0 (rw e h)))
-
-    go : (d : Dat) → w .slot .dat ≡ d → P (givenOf d (w .buffer) block)
-    go dat.Free e = late dat.Free e refl
-    go (dat.Busy answered) e = late (dat.Busy answered) e refl
-    go (dat.Runs t) e =
-        by-test P (mayGive t (length (w .buffer)))
-        (λ m. by-test P (eqb (length block) (blockOf (t .size) (length (w .buffer)) .0))
-        (λ q. let p = gaveOf t (w .buffer) block .0 in done (passes (p .dat) (p .outcome) (rw e (λ a. a))))
-        (λ q. kept (other-length e m (eqb-false _ _ q))))
-        (λ m. late (dat.Runs t) e m)
-    go dat.Stuck e = late dat.Stuck e refl
-    go (dat.Halted way) e = late (dat.Halted way) e refl
+    go (engine.out h) = kept (no-giving (λ g. let (size, f) = giving w .0 g in h size f))
+    go (engine.wrong g n) = kept (other refl g n)
+    go (engine.passed {t} e g l) = let p = gaveOf t (w .buffer) block .0 in done (passes (p .dat) (p .outcome) (rw e (λ a. a)))
 
 given-taken : (w : World) (room : List ℕ) → Given w (block-taken room) (stepOf w (block-taken room))
-unfolding stepOf takeOf
-given-taken w room = go (w .slot .dat) refl
+unfolding stepOf
+given-taken w room = go (engine.taken-case (w .slot .dat) (w .buffer) room)
   where
-    P : Passed × List ℕ → Type 0
-    P r =
-        Given w (block-taken room)
+    small : {d : Dat} {size : ℕ} → w .slot .dat ≡ d → engine.Takes (length (w .buffer)) d size → length room < size → Row8 w (block-taken room)
+    small e (engine.takes way h) l = small-room e (engine.takes-may (engine.takes way h)) l
+
+    go : {r : Passed × List ℕ} → engine.Taken (w .slot .dat) (w .buffer) room r
+        → Given w (block-taken room)
         (let s = passedAs (w .slot) (r .0) in
         record { answer = s .answer; world = record { slot = s .slot; buffer = w .buffer; memory = w .memory }; room = r .1 })
-
-    late : (d : Dat) → w .slot .dat ≡ d → running (λ t. mayTake t (length (w .buffer))) d ≡ false → P (keptAs d OutOfTurn, room)
-    late d e h = kept (no-taking (fails _ (taking-test w) .0 (rw e h)))
-
-    go : (d : Dat) → w .slot .dat ≡ d → P (takenOf d (w .buffer) room)
-    go dat.Free e = late dat.Free e refl
-    go (dat.Busy answered) e = late (dat.Busy answered) e refl
-    go (dat.Runs t) e =
-        by-test P (mayTake t (length (w .buffer)))
-        (λ m. by-test P (ltb (length room) (blockOf (t .size) (length (w .buffer)) .0))
-        (λ q. kept (small-room e m (ltb-true _ _ q)))
-        (λ q.
+    go (engine.out h) = kept (no-taking (λ g. let (size, f) = taking w .0 g in h size f))
+    go (engine.wrong g l) = kept (small refl g l)
+    go (engine.passed {t} e g l) =
         let p = tookOf t (w .buffer) room .0 in
-        done (passes (p .dat) (p .outcome) (rw e (follows t _ _ _ (emptiedOf (t .stage) (fewer (t .left))))))))
-        (λ m. late (dat.Runs t) e m)
-    go dat.Stuck e = late dat.Stuck e refl
-    go (dat.Halted way) e = late (dat.Halted way) e refl
+        done (passes (p .dat) (p .outcome) (rw e (follows t _ _ _ (emptiedOf (t .stage) (fewer (t .left))))))
 
 -- ---- turns: "11, then 10, then 9"
 
+-- as the engine's own cases say
 given-turn : (w : World) → Given w turn (stepOf w turn)
-unfolding stepOf stagedOf runningOf movingOf
-given-turn w =
-    by-test P (tooLarge (w .memory)) (λ l. held (w .slot .dat) refl (too-large (ltb-true _ _ l)))
-    (λ l. staged (w .slot .dat) refl (ltb-false _ _ l))
+unfolding stepOf
+given-turn w = go (engine.turn-case (w .slot .dat) (w .slot .registers .adma .low) (w .buffer) (w .memory))
   where
-    table : ℕ
-    table = w .slot .registers .adma .low
+    idling : {d : Dat} → engine.Idling d → Idling d
+    idling engine.free = free
+    idling engine.busy = busy
+    idling (engine.stopped g) = stopped g
+    idling engine.stuck = stuck
+    idling engine.halted = halted
 
-    P : Turned × List ℕ × List ℕ → Type 0
-    P r =
-        Given w turn
+    early : {d : Dat} → length (w .memory) ≤ memoryLimit → w .slot .dat ≡ d → engine.Premature (length (w .buffer)) d → Row9 w turn
+    early m e (engine.awaits n a) = awaits m e n a
+    early m e (engine.no-bytes g z) = no-bytes m e (rw g due) z
+
+    go : {r : Turned × List ℕ × List ℕ} → engine.Turns (w .slot .dat) (w .slot .registers .adma .low) (w .buffer) (w .memory) r
+        → Given w turn
         (let s = turnedOf (w .slot) (r .0) in record { answer = s .answer; world = record { slot = s .slot; buffer = r .1; memory = r .2 }; room = [] })
-
-    held : (d : Dat) {a : Answer} → w .slot .dat ≡ d → RowOf a w turn → P (refusedAs d table a, w .buffer, w .memory)
-    held d e c = rw (← e) (kept c)
-
-    went : (t : Transfer) → w .slot .dat ≡ dat.Runs t → (owed holds count : ByteCount) (reached : ℕ) (int : Bool) (next : Next) → Reached w reached
-        → (x mem : List ℕ) → P (turnedAs t owed holds count reached int next, x, mem)
-    went t e owed holds count reached int next r x mem =
-        done (turns (turnedAs t owed holds count reached int next) r (rw e (follows t (t .left) owed holds next)))
-
-    moved : (t : Transfer) → w .slot .dat ≡ dat.Runs t → (rest : ByteCount) (at : ℕ) (last int : Bool) (count : ByteCount)
-        (c : ByteCount × List ℕ × List ℕ) → P (movedOf t table rest at last int count c)
-    moved t e rest at last int count c =
-        let owed = less (t .owed) count in
-        let still = less rest count in
-        went t e owed (c .0) count table (doneInt still int) (onwardOf still (at + count .0) last int owed (t .left) (c .0)) stays (c .1) (c .2)
-
-    asked : (t : Transfer) → length (w .memory) ≤ memoryLimit → w .slot .dat ≡ dat.Runs t → t .stage ≢ Stopped
-        → (r : Turned × List ℕ × List ℕ) → P r → (b : Bool) → t .answered ≡ b → P (answeredOf b t table (w .buffer) (w .memory) r)
-    asked t m e n r p true a = p
-    asked t m e n r p false a = held (dat.Runs t) e (awaits m e n a)
-
-    going : (s : Stage) (t : Transfer) → length (w .memory) ≤ memoryLimit → w .slot .dat ≡ dat.Runs t → t .stage ≡ s
-        → P (runningOf s t table (w .buffer) (w .memory))
-    going Stopped t m e g = held (dat.Runs t) e (idles m (rw e (stopped g)))
-    going Fetching t m e g =
-        let f = fetchOf (w .memory) table (t .owed) in
-        asked t m e (λ z. false≢true (cc)) (fetchedOf t (length (w .buffer)) f, w .buffer, w .memory)
-        (went t e (t .owed) (t .held) (bytes 0) (seenTable f) (seenInt f)
-        (seenNext f (t .owed) (t .left) (heldOf (t .size) (length (w .buffer)) (t .held))) (fetched m (t .owed)) (w .buffer) (w .memory))
-        (t .answered) refl
-    going (Moving rest at last int) t m e g =
-        let ready = readyOf (t .way) (t .size) (length (w .buffer)) (t .held) in
-        asked t m e (λ z. false≢true (cc)) (movingOf t table rest at last int (w .buffer) (w .memory))
-        (by-test P (eqb (ready .0) 0) (λ z. held (dat.Runs t) e (no-bytes m e (rw g due) (eqb-true _ _ z)))
-        (λ z. by-test P (inMemory (length (w .memory)) at (least rest ready .0))
-        (λ i. moved t e rest at last int (least rest ready) (carryOf (t .way) t (w .buffer) (w .memory) at (least rest ready)))
-        (λ i. went t e (t .owed) (t .held) (bytes 0) table false (Fail moveState) stays (w .buffer) (w .memory))))
-        (t .answered) refl
-
-    staged : (d : Dat) → w .slot .dat ≡ d → length (w .memory) ≤ memoryLimit → P (stagedOf d table (w .buffer) (w .memory))
-    staged dat.Free e m = held dat.Free e (idles m (rw e free))
-    staged (dat.Busy answered) e m = held (dat.Busy answered) e (idles m (rw e busy))
-    staged (dat.Runs t) e m = going (t .stage) t m e refl
-    staged dat.Stuck e m = held dat.Stuck e (idles m (rw e stuck))
-    staged (dat.Halted way) e m = held (dat.Halted way) e (idles m (rw e halted))
+    go (engine.large l) = kept (too-large l)
+    go (engine.idle m i) = kept (idles m (idling i))
+    go (engine.early m p) = kept (early m refl p)
+    go (engine.done {t} {reached} m i p e r owed held count int next x mem) =
+        done (turns (turnedAs t owed held count reached int next) r (rw e (follows t (t .left) owed held next)))
 
 -- "An answer is a number and a value": what every step gives
 pub given : (w : World) (e : Step) → Given w e (stepOf w e)

@@ -5,20 +5,13 @@ use mathlib.Core.Bool.{Bool, true, false}
 use lib.ListN.{length}
 use lib.Dec.{eqb}
 use Rattle.terms.specs.Counts.{least}
-use Rattle.terms.specs.declared.ByteCount.{ByteCount}
 use Rattle.table.specs.Memory.{inMemory, indexOf, tooLarge}
 use Rattle.engine.specs.Buffer.{blockOf, heldOf, readyOf}
-use Rattle.engine.specs.Block.{mayGive, giveOf, givenOf}
+use Rattle.engine.proofs.Exactly as engine
+use Rattle.engine.specs.Block.{givenOf}
 use Rattle.engine.specs.Turn.{carryOf, answeredOf, movingOf, runningOf, stagedOf, turnOf}
-use Rattle.engine.specs.declared.transfer.Way.{Way}
-use Rattle.engine.specs.declared.transfer.Way.the-variants.{Read, Write}
-use Rattle.engine.specs.declared.transfer.Stage.{Stage}
-use Rattle.engine.specs.declared.transfer.Stage.the-variants.{Fetching, Moving, Stopped}
-use Rattle.engine.specs.declared.transfer.Transfer.{Transfer}
-use Rattle.engine.specs.declared.transfer.Dat.{Dat}
 use Rattle.engine.specs.declared.transfer.Dat.the-variants as dat
-use Rattle.engine.specs.declared.block.Passed.{Passed}
-use Rattle.engine.specs.declared.turn.Turned.{Turned}
+use Rattle.controller.proofs.Names.{ByteCount, Way, Read, Write, Stage, Fetching, Moving, Stopped, Transfer, Dat, Turned, Passed}
 use Rattle.controller.specs.Steps.{Step, read, write, card-in, card-out, response, block-given, block-taken, busy-over, data-error, level, turn, World, stepOf}
 use Rattle.controller.proofs.Causes.{by-test}
 use Rattle.controller.proofs.Masks.{Bytes, bytes-drop, bytes-paste}
@@ -39,17 +32,12 @@ Brings turn = Unit
 
 -- a block given
 given-bytes : (d : Dat) (x block : List ℕ) → Bytes x → Bytes block → Bytes (givenOf d x block .1)
-unfolding giveOf
-given-bytes dat.Free x block h g = h
-given-bytes (dat.Busy answered) x block h g = h
-given-bytes (dat.Runs t) x block h g =
-    by-test P (mayGive t (length x))
-    (λ m. by-test P (eqb (length block) (blockOf (t .size) (length x) .0)) (λ e. bytes-paste 0 (blockOf (t .size) (length x) .0) h g) (λ e. h)) (λ m. h)
+given-bytes d x block h g = go (engine.given-case d x block)
   where
-    P : Passed × List ℕ → Type 0
-    P r = Bytes (r .1)
-given-bytes dat.Stuck x block h g = h
-given-bytes (dat.Halted way) x block h g = h
+    go : {r : Passed × List ℕ} → engine.Given d x block r → Bytes (r .1)
+    go (engine.out f) = h
+    go (engine.wrong f n) = h
+    go (engine.passed {t} e f n) = bytes-paste 0 (blockOf (t .size) (length x) .0) h g
 
 -- a turn
 module _ (table : ℕ) (x mem : List ℕ) (h : Bytes x) (g : Bytes mem) where

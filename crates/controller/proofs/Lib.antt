@@ -1,7 +1,9 @@
 -- The theorems over the definitions: every entry, in every world.
+pub mod Names
 pub mod Causes
 pub mod Effects
 pub mod Given
+pub mod Plain
 pub mod Numbers
 pub mod Refused
 pub mod Exactly

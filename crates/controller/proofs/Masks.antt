@@ -1,24 +1,19 @@
 -- What 058h and Block Count hold after a step: bits of their own, as long as memory is bytes. Assumes nothing.
 use Prim.Native.Nat.{ℕ, zero, suc, _+_, _-_, _*_, _/_, _%_, _^_, _≤_, _<_}
 use native.Mathlib.Omega.{arith}
-use mathlib.Core.Path.{_≡_, refl, sym, _∙_, ap}
+use mathlib.Core.Path.{_≡_, sym, _∙_, ap}
 use mathlib.Core.Logic.{_↔_}
 use mathlib.Core.List.{List, [], _∷_, _++_}
-use mathlib.Core.Bool.{Bool, true, false, cond}
 use lib.ListN.{length, getD, take, drop}
 use lib.Seq.{paste}
 use lib.Bits.{bitAnd, and-le-l, and-high, and-block, and-mask}
 use lib.Pow.{split}
 use lib.Dec.{eqb, ltb, lit<}
 use borrow.Author.Tests.{eqb-false}
-use Rattle.terms.specs.declared.ByteCount.{ByteCount}
 use Rattle.table.specs.Memory.{memoryLimit, inMemory}
 use Rattle.table.specs.Line.{lineSize, lineBytes, byteOf, lengthOf, addressOf, flagsOf, actOf}
-use Rattle.table.specs.Fetch.{fetchState, actedOf, fetchOf}
-use Rattle.table.specs.declared.line.Act.{Act}
-use Rattle.table.specs.declared.line.Act.the-variants.{Tran, Link, Other}
-use Rattle.table.specs.declared.fetch.Fetched.{Fetched}
-use Rattle.table.specs.declared.fetch.Fetched.the-variants.{Fault}
+use Rattle.table.specs.Fetch.{actedOf, fetchOf}
+use Rattle.controller.proofs.Names.{ByteCount, Fetched, Act, Tran, Link, Other}
 use Rattle.table.proofs.Laws.{line-there}
 use Rattle.registers.specs.Bits.{without}
 use Rattle.registers.specs.Word.{blockBits, lowBits}
@@ -58,14 +53,10 @@ block-exactly n =
 
 -- "Block Count, which falls by one": a count of blocks still
 pub fallen-within : (n : ℕ) → Within n blockBits → Within (fallenBlock n) blockBits
-fallen-within n h = go (eqb (n / 65536) 0) refl
-  where
-    go : (t : Bool) → eqb (n / 65536) 0 ≡ t → Within (cond t n (n - 65536)) blockBits
-    go true e = h
-    go false e =
-        let (a, b) = block-exactly n .0 h in
-        let z = eqb-false (n / 65536) 0 e in
-        block-exactly (n - 65536) .1 (omega arith)
+fallen-within n h =
+    let (a, b) = block-exactly n .0 h in
+    by-test (λ (m : ℕ). Within m blockBits) (eqb (n / 65536) 0) (λ e. h)
+    (λ e. let z = eqb-false (n / 65536) 0 e in block-exactly (n - 65536) .1 (omega arith))
 
 -- ---- what is lent is bytes
 
@@ -102,11 +93,7 @@ bytes-at (suc i) (more small h) = bytes-at i h
 
 byte-small : (l : List ℕ) (i : ℕ) → Bytes l → byteOf l i < 256
 unfolding byteOf
-byte-small l i h = go (eqb (length l) lineSize)
-  where
-    go : (t : Bool) → cond t (getD l i 0) 0 < 256
-    go true = bytes-at i h
-    go false = omega arith
+byte-small l i h = by-test (λ (b : ℕ). b < 256) (eqb (length l) lineSize) (λ e. bytes-at i h) (λ e. omega arith)
 
 -- "bytes 4-7 address, low two bits taken as 0"
 address-low : (l : List ℕ) → Bytes l → Within (addressOf l) lowBits
@@ -119,17 +106,16 @@ address-low l h =
     low-exactly _ .1 (omega arith)
 
 line-bytes : (mem : List ℕ) (at : ℕ) → Bytes mem → Bytes (lineBytes mem at)
-line-bytes mem at h = go (inMemory (length mem) at lineSize)
-  where
-    go : (t : Bool) → Bytes (cond t (take lineSize (drop at mem)) [])
-    go true = bytes-take lineSize (bytes-drop at h)
-    go false = none
+line-bytes mem at h = by-test Bytes (inMemory (length mem) at lineSize) (λ e. bytes-take lineSize (bytes-drop at h)) (λ e. none)
 
 -- "058h stays"; "058h grows by 8, or takes the address for Link"
 pub fetch-low : (mem : List ℕ) (at : ℕ) (owed : ByteCount) → length mem ≤ memoryLimit → Bytes mem → Within at lowBits
     → Within (seenTable (fetchOf mem at owed)) lowBits
 unfolding fetchOf
-fetch-low mem at owed m h low = go (flagsOf (lineBytes mem at) .valid) refl
+fetch-low mem at owed m h low =
+    let (a, b) = low-exactly at .0 low in
+    by-test P (flagsOf l .valid)
+    (λ e. let there = line-there mem at e in acted (actOf (flagsOf l)) (low-exactly (at + lineSize) .1 (omega arith))) (λ e. low)
   where
     l : List ℕ
     l = lineBytes mem at
@@ -142,10 +128,3 @@ fetch-low mem at owed m h low = go (flagsOf (lineBytes mem at) .valid) refl
         by-test P (ltb (owed .0) (lengthOf l)) (λ a. next) (λ a. by-test P (inMemory (length mem) (addressOf l) (lengthOf l)) (λ b. next) (λ b. next))
     acted Link next = address-low l (line-bytes mem at h)
     acted Other next = next
-
-    go : (t : Bool) → flagsOf l .valid ≡ t → P (cond t (actedOf (actOf (flagsOf l)) l at (length mem) owed) (Fault fetchState at))
-    go true e =
-        let there = line-there mem at e in
-        let (a, b) = low-exactly at .0 low in
-        acted (actOf (flagsOf l)) (low-exactly (at + lineSize) .1 (omega arith))
-    go false e = low

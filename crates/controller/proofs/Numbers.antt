@@ -1,44 +1,33 @@
 -- Each cause of the table's rows gives its row's number: what a step answers where the cause is met. Assumes nothing.
-use Prim.Native.Nat.{ℕ, _%_, _≤_, _<_}
+use Prim.Native.Nat.{ℕ, _%_, _<_}
 use native.Mathlib.Omega.{arith}
 use mathlib.Core.Path.{_≡_, refl, sym, _∙_, ap}
-use mathlib.Core.Logic.{_≢_, Iff·rfl}
-use mathlib.Core.Bool.{Bool, true, false, cond, not, _&&_, true≢false}
+use mathlib.Core.Logic.{Iff·rfl}
+use mathlib.Core.Bool.{Bool, false, cond, not, _&&_, true≢false}
 use lib.ListN.{length}
 use lib.Dec.{eqb}
-use borrow.Author.Tests.{ne-eqb, lt-ltb, le-ltb}
+use borrow.Author.Tests.{ne-eqb, lt-ltb}
 use Rattle.terms.specs.Answers.{numberOf}
-use Rattle.terms.specs.declared.Answer.{Answer}
-use Rattle.terms.specs.declared.Answer.the-variants.{Done, NoPlace, DatInhibited, CommandInhibited, DatInUse, Unpowered, NotCarried, OutOfTurn, WrongLength, NotYet, NoTransfer, MemoryTooLarge, LimitTooHigh, LineRefused}
-use Rattle.terms.specs.declared.ByteCount.{ByteCount}
-use Rattle.table.specs.Memory.{memoryLimit}
 use Rattle.registers.specs.Place.{editOf, issues}
 use Rattle.registers.specs.Block.{busPower, busClock}
 use Rattle.registers.specs.Word.{inUse}
-use Rattle.registers.specs.declared.place.Word.{Word}
-use Rattle.registers.specs.declared.place.Place.{Place}
 use Rattle.registers.specs.declared.place.Place.the-variants as place
-use Rattle.registers.specs.declared.place.Target.{Target}
 use Rattle.registers.specs.declared.place.Target.the-variants as target
-use Rattle.registers.specs.declared.block.Registers.{Registers}
 use Rattle.registers.proofs.Tests.{fails}
 use Rattle.registers.proofs.Command.{issues-unguarded}
-use Rattle.engine.specs.Block.{mayGive, giveOf, givenOf, mayTake, takeOf, takenOf}
-use Rattle.engine.specs.Turn.{answeredOf, movingOf, runningOf, stagedOf}
-use Rattle.engine.specs.declared.transfer.Stage.{Stage}
-use Rattle.engine.specs.declared.transfer.Stage.the-variants.{Fetching, Moving, Stopped}
-use Rattle.engine.specs.declared.transfer.Dat.{Dat}
+use Rattle.engine.specs.Block.{giveOf, takeOf}
+use Rattle.engine.specs.Buffer.{readyOf}
 use Rattle.engine.specs.declared.transfer.Dat.the-variants as dat
-use Rattle.controller.specs.Slot.{useOf, occupied, steppedAs}
-use Rattle.controller.specs.Command.{requestOf, isAbort, usesDat, notCarried, issueOf, judged, commandStep}
-use Rattle.controller.specs.Data.{passedAs}
-use Rattle.controller.specs.Steps.{Step, write, turn, World, stepOf}
-use Rattle.controller.specs.Rows.{Unnamed, Unaimed, Would, Commands, Row1, Row2, Row3, Row4, Row5, Row6, Row7, Row8, Row9, Row10, Row11, reads, writes, guards, waits, crosses, dark, uncarried, already-in, already-out, no-response, no-giving, no-taking, no-rest, no-error, no-card, other-length, small-room, Idling, free, busy, stopped, stuck, halted, Due, due, awaits, no-bytes, idles, too-large}
-use Rattle.controller.specs.declared.command.Request.{Request}
-use Rattle.controller.specs.declared.slot.Slot.{Slot}
-use Rattle.controller.specs.declared.slot.Stepped.{Stepped}
+use Rattle.engine.proofs.Exactly as engine
+use Rattle.controller.specs.Slot.{useOf, occupied}
+use Rattle.controller.specs.Command.{requestOf, isAbort, usesDat, notCarried, judged, commandStep}
+use Rattle.controller.specs.Steps.{Step, write, World, stepOf}
+use Rattle.controller.specs.Rows.{NamesNoPlace, WritesNoPlace, asWritten, Commands, Row1, Row2, Row3, Row4, Row5, Row6, Row7, Row8, Row9, Row10, Row11, reads, writes, guards, waits, crosses, dark, uncarried, already-in, already-out, no-response, no-giving, no-taking, no-rest, no-error, no-card, other-length, small-room, Idling, free, busy, stopped, stuck, halted, Due, due, awaits, no-bytes, idles, too-large}
+use Rattle.controller.proofs.Names.{Answer, Done, OutOfTurn, NoPlace, DatInhibited, CommandInhibited, DatInUse, Unpowered, NotCarried}
+use Rattle.controller.proofs.Names.{WrongLength, NotYet, NoTransfer, MemoryTooLarge, LimitTooHigh, LineRefused, Stage, Transfer, Dat}
+use Rattle.controller.proofs.Names.{Request, Slot, Stepped, Registers, Place, Target, Word}
 use Rattle.controller.proofs.Effects.{Hinges, busy-hinges, error-hinges, response-hinges}
-use Rattle.controller.proofs.Causes.{Sits, nowhere, here, sits, Aims, astray, aims, aimed-at, crosses-test, dark-test, holds, resting-test, erring-test, responding-test, running, giving-test, taking-test}
+use Rattle.controller.proofs.Causes.{by-test, Sits, nowhere, here, sits, Aims, astray, aims, aimed-at, crosses-test, dark-test, holds, resting-test, erring-test, responding-test, giving, taking}
 use Rattle.controller.proofs.Given.{RowOf}
 
 -- the number that a step gives
@@ -46,27 +35,23 @@ abbrev number : World → Step → ℕ
 number w e = numberOf (stepOf w e .answer)
 
 -- an access that names no place has none
-unplaced : {offset width : ℕ} {p : Place} → Unnamed offset width → Sits offset width p → p ≡ place.Nowhere
+unplaced : {offset width : ℕ} {p : Place} → NamesNoPlace offset width → Sits offset width p → p ≡ place.Nowhere
 unplaced u (nowhere v) = refl
 unplaced u (here n word) = absurd (n u)
 
-untargeted : {offset width value : ℕ} {t : Target} → Unaimed offset width value → Aims offset width value t → t ≡ target.Nowhere
+untargeted : {offset width value : ℕ} {t : Target} → WritesNoPlace offset width value → Aims offset width value t → t ≡ target.Nowhere
 untargeted u (astray v) = refl
 untargeted u (aims n word) = absurd (n u)
 
 -- and one past the test is at its place
-targeted : {offset width value : ℕ} {t : Target} → (Unaimed offset width value → ⊥) → Aims offset width value t
+targeted : {offset width value : ℕ} {t : Target} → (WritesNoPlace offset width value → ⊥) → Aims offset width value t
     → (word : Word) × (t ≡ target.At word (editOf (offset % 4) width value))
 targeted n (astray u) = absurd (n u)
 targeted n (aims m word) = (word, refl)
 
 -- a judgement is the answer, issued or not
 judged-answer : (s : Slot) (r : Registers) (q : Request) (a : Answer) → judged s r q a .answer ≡ a
-judged-answer s r q a = go (eqb (numberOf a) 0)
-  where
-    go : (t : Bool) → cond t (steppedAs a (issueOf s r q)) (steppedAs a s) .answer ≡ a
-    go true = refl
-    go false = refl
+judged-answer s r q a = by-test (λ (x : Stepped). x .answer ≡ a) (eqb (numberOf a) 0) (λ e. refl) (λ e. refl)
 
 -- "Order: ... 3, 4, 5, 6", by the four tests
 abbrev verdict : Bool → Bool → Bool → Bool → Answer
@@ -86,7 +71,7 @@ module _ (w : World) where
 
   -- a write that is a command is answered as it is judged, by four tests
   judgement : (offset width value : ℕ) → Commands offset width value → {a b c d : Bool}
-      → (let r = Would (w .slot) offset width value in
+      → (let r = asWritten (w .slot) offset width value in
       let q = requestOf r in
       occupied (w .slot .command) ≡ a
       → (usesDat q && not (isAbort q) && inUse (useOf (w .slot .dat))) ≡ b
@@ -95,7 +80,7 @@ module _ (w : World) where
       → number w (write offset width value) ≡ numberOf (verdict a b c d))
   unfolding stepOf commandStep
   judgement offset width value (n, i) o x p u =
-      let r = Would (w .slot) offset width value in
+      let r = asWritten (w .slot) offset width value in
       rw (targeted n (aimed-at offset width value) .1, i)
       (ap numberOf (judged-answer (w .slot) r (requestOf r) _ ∙ (λ j. verdict (o j) (x j) (p j) (u j))))
 
@@ -107,11 +92,11 @@ module _ (w : World) where
 
   number-5 : {e : Step} → Row5 w e → number w e ≡ 5
   number-5 (dark {offset} {width} {value} c o x d) =
-      judgement offset width value c o (fails _ (crosses-test (w .slot) _) .1 x) (dark-test (Would (w .slot) offset width value) .1 d) refl
+      judgement offset width value c o (fails _ (crosses-test (w .slot) _) .1 x) (dark-test (asWritten (w .slot) offset width value) .1 d) refl
 
   number-6 : {e : Step} → Row6 w e → number w e ≡ 6
   number-6 (uncarried {offset} {width} {value} c o x d u) =
-      judgement offset width value c o (fails _ (crosses-test (w .slot) _) .1 x) (holds _ (dark-test (Would (w .slot) offset width value)) .1 d) u
+      judgement offset width value c o (fails _ (crosses-test (w .slot) _) .1 x) (holds _ (dark-test (asWritten (w .slot) offset width value)) .1 d) u
 
   -- an event that turns on one test, where that fails
   late : {x : Stepped} (t : Bool) → Hinges w t x → t ≡ false → numberOf (x .answer) ≡ 7
@@ -122,24 +107,8 @@ module _ (w : World) where
   number-7 (already-in c) = rw c
   number-7 (already-out c) = rw c
   number-7 (no-response {n} {words} h) = late _ (response-hinges w n words) (fails _ (responding-test (w .slot) n) .1 h)
-  number-7 (no-giving {block} h) = go (w .slot .dat) (fails _ (giving-test w) .1 h)
-    where
-      go : (d : Dat) → running (λ t. mayGive t (length (w .buffer))) d ≡ false
-          → numberOf (passedAs (w .slot) (givenOf d (w .buffer) block .0) .answer) ≡ 7
-      go dat.Free f = refl
-      go (dat.Busy answered) f = refl
-      go (dat.Runs t) f = rw f
-      go dat.Stuck f = refl
-      go (dat.Halted way) f = refl
-  number-7 (no-taking {room} h) = go (w .slot .dat) (fails _ (taking-test w) .1 h)
-    where
-      go : (d : Dat) → running (λ t. mayTake t (length (w .buffer))) d ≡ false
-          → numberOf (passedAs (w .slot) (takenOf d (w .buffer) room .0) .answer) ≡ 7
-      go dat.Free f = refl
-      go (dat.Busy answered) f = refl
-      go (dat.Runs t) f = rw f
-      go dat.Stuck f = refl
-      go (dat.Halted way) f = refl
+  number-7 (no-giving {block} h) = let e = engine.given-7 (w .slot .dat) (w .buffer) block .1 (λ size g. h (giving w .1 (size, g))) in rw e e
+  number-7 (no-taking {room} h) = let e = engine.taken-7 (w .slot .dat) (w .buffer) room .1 (λ size g. h (taking w .1 (size, g))) in rw e e
   number-7 (no-rest h) = late _ (busy-hinges w) (fails _ (resting-test (w .slot .dat)) .1 h)
   number-7 (no-error {n} h) = late _ (error-hinges w n) (fails _ (erring-test (w .slot .dat) n) .1 h)
   number-7 (no-card c) = rw c
@@ -149,78 +118,47 @@ module _ (w : World) where
   number-8 (other-length e m n) = rw (e, m, ne-eqb _ _ n)
   number-8 (small-room e m l) = rw (e, m, lt-ltb _ _ l)
 
-  -- a turn with no more memory than the limit
-  staged : length (w .memory) ≤ memoryLimit
-      → number w turn ≡ numberOf (stagedOf (w .slot .dat) (w .slot .registers .adma .low) (w .buffer) (w .memory) .0 .answer)
-  unfolding stepOf
-  staged m = rw (le-ltb _ _ m)
+  -- a turn is refused by the engine's own rows
+  abbrev table : ℕ
+  table = w .slot .registers .adma .low
+
+  early : {t : Transfer} {s : Stage} → Due s → t .stage ≡ s → readyOf (t .way) (t .size) (length (w .buffer)) (t .held) .0 ≡ 0
+      → engine.Premature (length (w .buffer)) (dat.Runs t)
+  early due e z = engine.no-bytes e z
 
   number-9 : {e : Step} → Row9 w e → number w e ≡ 9
-  unfolding stagedOf runningOf movingOf
-  number-9 (awaits {t} m e n a) = staged m ∙ rw e (go (t .stage) n)
-    where
-      go : (s : Stage) → s ≢ Stopped → numberOf (runningOf s t (w .slot .registers .adma .low) (w .buffer) (w .memory) .0 .answer) ≡ 9
-      go Stopped n = absurd (n refl)
-      go Fetching n = rw a
-      go (Moving rest at last int) n = rw a
-  number-9 (no-bytes {t} m e d z) = staged m ∙ rw e (go d)
-    where
-      table : ℕ
-      table = w .slot .registers .adma .low
+  unfolding stepOf
+  number-9 (awaits m e n a) = engine.turn-9 (w .slot .dat) table (w .buffer) (w .memory) .1 (m, rw e (engine.awaits n a))
+  number-9 (no-bytes m e d z) = engine.turn-9 (w .slot .dat) table (w .buffer) (w .memory) .1 (m, rw e (early d refl z))
 
-      ask : (rest : ByteCount) (at : ℕ) (last int b : Bool)
-          → numberOf (answeredOf b t table (w .buffer) (w .memory) (movingOf t table rest at last int (w .buffer) (w .memory)) .0 .answer) ≡ 9
-      ask rest at last int true = rw z
-      ask rest at last int false = refl
-
-      go : {s : Stage} → Due s → numberOf (runningOf s t table (w .buffer) (w .memory) .0 .answer) ≡ 9
-      go (due {rest} {at} {last} {int}) = ask rest at last int (t .answered)
+  idling : {d : Dat} → Idling d → engine.Idling d
+  idling free = engine.free
+  idling busy = engine.busy
+  idling (stopped e) = engine.stopped e
+  idling stuck = engine.stuck
+  idling halted = engine.halted
 
   number-10 : {e : Step} → Row10 w e → number w e ≡ 10
-  unfolding stagedOf runningOf
-  number-10 (idles m i) = staged m ∙ go i
-    where
-      go : {d : Dat} → Idling d → numberOf (stagedOf d (w .slot .registers .adma .low) (w .buffer) (w .memory) .0 .answer) ≡ 10
-      go free = refl
-      go busy = refl
-      go (stopped g) = rw g
-      go stuck = refl
-      go halted = refl
+  unfolding stepOf
+  number-10 (idles m i) = engine.turn-10 (w .slot .dat) table (w .buffer) (w .memory) .1 (m, idling i)
 
   number-11 : {e : Step} → Row11 w e → number w e ≡ 11
   unfolding stepOf
-  number-11 (too-large l) = rw (lt-ltb _ _ l)
+  number-11 (too-large l) = engine.turn-11 (w .slot .dat) table (w .buffer) (w .memory) .1 l
 
-  -- the row of an answer gives its number
-  pub number-of : (e : Step) (a : Answer) → RowOf a w e → number w e ≡ numberOf a
+  -- the row of an answer gives its number, which is one from 1 to 11
+  pub number-of : (e : Step) (a : Answer) → RowOf a w e → (number w e ≡ numberOf a) × (0 < numberOf a) × (numberOf a < 12)
   number-of e (Done v) r = absurd r
-  number-of e NoPlace r = number-1 r
-  number-of e DatInhibited r = number-2 r
-  number-of e CommandInhibited r = number-3 r
-  number-of e DatInUse r = number-4 r
-  number-of e Unpowered r = number-5 r
-  number-of e NotCarried r = number-6 r
-  number-of e OutOfTurn r = number-7 r
-  number-of e WrongLength r = number-8 r
-  number-of e NotYet r = number-9 r
-  number-of e NoTransfer r = number-10 r
-  number-of e MemoryTooLarge r = number-11 r
+  number-of e NoPlace r = (number-1 r, omega arith, omega arith)
+  number-of e DatInhibited r = (number-2 r, omega arith, omega arith)
+  number-of e CommandInhibited r = (number-3 r, omega arith, omega arith)
+  number-of e DatInUse r = (number-4 r, omega arith, omega arith)
+  number-of e Unpowered r = (number-5 r, omega arith, omega arith)
+  number-of e NotCarried r = (number-6 r, omega arith, omega arith)
+  number-of e OutOfTurn r = (number-7 r, omega arith, omega arith)
+  number-of e WrongLength r = (number-8 r, omega arith, omega arith)
+  number-of e NotYet r = (number-9 r, omega arith, omega arith)
+  number-of e NoTransfer r = (number-10 r, omega arith, omega arith)
+  number-of e MemoryTooLarge r = (number-11 r, omega arith, omega arith)
   number-of e LimitTooHigh r = absurd r
   number-of e LineRefused r = absurd r
-
-  -- and is of a number from 1 to 11
-  pub bounds : (e : Step) (a : Answer) → RowOf a w e → (0 < numberOf a) × (numberOf a < 12)
-  bounds e (Done v) r = absurd r
-  bounds e NoPlace r = omega arith
-  bounds e DatInhibited r = omega arith
-  bounds e CommandInhibited r = omega arith
-  bounds e DatInUse r = omega arith
-  bounds e Unpowered r = omega arith
-  bounds e NotCarried r = omega arith
-  bounds e OutOfTurn r = omega arith
-  bounds e WrongLength r = omega arith
-  bounds e NotYet r = omega arith
-  bounds e NoTransfer r = omega arith
-  bounds e MemoryTooLarge r = omega arith
-  bounds e LimitTooHigh r = absurd r
-  bounds e LineRefused r = absurd r

@@ -1,16 +1,13 @@
 -- A DAT use that awaits its response stands only beside a command that waits, a level only with a card: from power-on on. Assumes nothing.
 use mathlib.Core.Path.{_≡_, refl, sym, _∙_}
 use mathlib.Core.Bool.{Bool, true, false, cond, _||_, false≢true}
-use Rattle.registers.specs.declared.reset.Resets.{Resets}
-use Rattle.engine.specs.declared.transfer.Dat.{Dat}
 use Rattle.engine.specs.declared.transfer.Dat.the-variants as dat
 use Rattle.controller.specs.Slot.{powerOn, haltedDat, awaitedHalts, answeredDat}
 use Rattle.controller.specs.Access.{commandReset, datReset}
 use Rattle.controller.specs.Steps.{Step, World, Result, stepOf}
-use Rattle.controller.specs.declared.slot.Waiting.{Waiting}
-use Rattle.controller.specs.declared.slot.Command.{Command}
 use Rattle.controller.specs.declared.slot.Command.the-variants as command
-use Rattle.controller.specs.declared.slot.Slot.{Slot}
+use Rattle.controller.proofs.Names.{Dat, Command, Slot, Waiting, Resets}
+use Rattle.controller.proofs.Causes.{by-test}
 use Rattle.controller.proofs.Effects.{awaiting, Effect, same, stores, issues, comes, leaves, replies, errs, levels, tells, passes, turns}
 use Rattle.controller.proofs.Given.{Given, done, kept, given}
 
@@ -44,11 +41,7 @@ awaited-quiet : (d : Dat) → awaiting (awaitedHalts d) ≡ false
 awaited-quiet dat.Free = refl
 awaited-quiet (dat.Busy true) = refl
 awaited-quiet (dat.Busy false) = refl
-awaited-quiet (dat.Runs t) = go (t .answered) refl
-  where
-    go : (b : Bool) → t .answered ≡ b → awaiting (cond b (dat.Runs t) (dat.Halted (t .way))) ≡ false
-    go true e = rw e
-    go false e = refl
+awaited-quiet (dat.Runs t) = by-test (λ (d : Dat). awaiting d ≡ false) (t .answered) (λ e. rw e) (λ e. refl)
 awaited-quiet dat.Stuck = refl
 awaited-quiet (dat.Halted way) = refl
 

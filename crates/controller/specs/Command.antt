@@ -4,7 +4,7 @@ use Prim.Native.Nat.{ℕ, _/_, _%_}
 use mathlib.Core.Bool.{Bool, true, false, cond, not, _&&_, _||_}
 use lib.Dec.{eqb, ltb}
 use Rattle.terms.specs.Counts.{blocks}
-use Rattle.terms.specs.Answers.{numberOf}
+use Rattle.terms.specs.Answers.{isDone}
 use Rattle.terms.specs.declared.BlockCount.{BlockCount}
 use Rattle.terms.specs.declared.Answer.{Answer}
 use Rattle.terms.specs.declared.Answer.the-variants.{Done, CommandInhibited, DatInUse, Unpowered, NotCarried}
@@ -44,7 +44,7 @@ isBusy Long = false
 isBusy Short = false
 isBusy ShortBusy = true
 
--- bit k of a register, the weight of the bit given
+-- is the bit of this weight 1?
 abbrev pub on : ℕ → ℕ → Bool
 on n weight = eqb (n / weight % 2) 1
 
@@ -76,11 +76,15 @@ isAbort q = eqb (q .class) 3
 abbrev pub usesDat : Request → Bool
 usesDat q = q .«data» || isBusy (q .kind)
 
+-- "block size ... over 512"
+abbrev pub largestBlock : ℕ
+largestBlock = 512
+
 -- "response type not 10b, DMA Enable 0, DMA Select (028h bits 4-3) not 10b, Auto CMD12 set, block size 0 or over 512 (12-bit field), Multi with
 -- Block Count Enable 0 or count 0"
 abbrev pub unfitData : Request → Bool
 unfitData q =
-    not (isShort (q .kind)) || not (q .dma) || not (eqb (q .select) 2) || q .auto || eqb (q .size) 0 || ltb 512 (q .size)
+    not (isShort (q .kind)) || not (q .dma) || not (eqb (q .select) 2) || q .auto || eqb (q .size) 0 || ltb largestBlock (q .size)
     || q .multi && (not (q .counts) || eqb (q .count .0) 0)
 
 -- 6: "command type 01b or 10b; Abort with data; data with any of" these
@@ -119,7 +123,7 @@ wouldBe s e = takeOf (Takes Order) e (factsOf s) (s .registers)
 
 -- "A refused command stores no byte of its access."
 abbrev pub judged : Slot → Registers → Request → Answer → Stepped
-judged s r q a = cond (eqb (numberOf a) 0) (steppedAs a (issueOf s r q)) (steppedAs a s)
+judged s r q a = cond (isDone a) (steppedAs a (issueOf s r q)) (steppedAs a s)
 
 unfoldable pub commandStep : Slot → Edit → Stepped
 commandStep s e =

@@ -4,7 +4,7 @@ use Prim.Native.Nat.{ℕ, _-_, _/_}
 use mathlib.Core.List.{List}
 use mathlib.Core.Bool.{Bool, true, false, cond, _&&_}
 use lib.Dec.{eqb, ltb}
-use Rattle.terms.specs.Answers.{numberOf}
+use Rattle.terms.specs.Answers.{isDone}
 use Rattle.terms.specs.declared.Answer.{Answer}
 use Rattle.terms.specs.declared.Answer.the-variants.{Done, OutOfTurn}
 use Rattle.registers.specs.Block.{withBlock, withFault, withLow}
@@ -56,7 +56,7 @@ abbrev pub passedOf : Slot → Dat → Outcome → Slot
 passedOf s d outcome = withSides s (outcomeAt outcome (countedDown (s .dat) (s .registers))) (s .command) d
 
 abbrev pub passedAs : Slot → Passed → Stepped
-passedAs s p = cond (eqb (numberOf (p .answer)) 0) (steppedAs (p .answer) (passedOf s (p .dat) (p .outcome))) (steppedAs (p .answer) s)
+passedAs s p = cond (isDone (p .answer)) (steppedAs (p .answer) (passedOf s (p .dat) (p .outcome))) (steppedAs (p .answer) s)
 
 abbrev pub givenOf : Slot → List ℕ → List ℕ → Stepped × List ℕ
 givenOf s x bytes = let r = block.givenOf (s .dat) x bytes in (passedAs s (r .0), r .1)
@@ -66,13 +66,13 @@ takenOf s x room = let r = block.takenOf (s .dat) x room in (passedAs s (r .0), 
 
 -- ---- busy over and data errors
 
-abbrev pub toldOf : Slot → Dat → Event → Stepped
-toldOf s d event = steppedAs (Done 0) (withSides s (raisedAt event (s .registers)) (s .command) d)
+abbrev pub raisedStep : Slot → Dat → Event → Stepped
+raisedStep s d event = steppedAs (Done 0) (withSides s (raisedAt event (s .registers)) (s .command) d)
 
 -- "Busy over: busy, response in; Transfer Complete, DAT free."
 abbrev pub busyOverAt : Dat → Slot → Stepped
 busyOverAt Free s = steppedAs OutOfTurn s
-busyOverAt (Busy answered) s = cond answered (toldOf s Free TransferComplete) (steppedAs OutOfTurn s)
+busyOverAt (Busy answered) s = cond answered (raisedStep s Free TransferComplete) (steppedAs OutOfTurn s)
 busyOverAt (Runs t) s = steppedAs OutOfTurn s
 busyOverAt Stuck s = steppedAs OutOfTurn s
 busyOverAt (Halted way) s = steppedAs OutOfTurn s
@@ -87,8 +87,8 @@ dataEvent n = cond (eqb n 0) DataTimeout (cond (eqb n 1) DataCrc DataEndBit)
 -- "running transfer with response in (busy: 0 only)"; "Over 2: out of turn."
 abbrev pub dataErrorAt : Dat → Slot → ℕ → Stepped
 dataErrorAt Free s n = steppedAs OutOfTurn s
-dataErrorAt (Busy answered) s n = cond (answered && eqb n 0) (toldOf s Stuck (dataEvent n)) (steppedAs OutOfTurn s)
-dataErrorAt (Runs t) s n = cond (t .answered && ltb n 3) (toldOf s (Halted (t .way)) (dataEvent n)) (steppedAs OutOfTurn s)
+dataErrorAt (Busy answered) s n = cond (answered && eqb n 0) (raisedStep s Stuck (dataEvent n)) (steppedAs OutOfTurn s)
+dataErrorAt (Runs t) s n = cond (t .answered && ltb n 3) (raisedStep s (Halted (t .way)) (dataEvent n)) (steppedAs OutOfTurn s)
 dataErrorAt Stuck s n = steppedAs OutOfTurn s
 dataErrorAt (Halted way) s n = steppedAs OutOfTurn s
 

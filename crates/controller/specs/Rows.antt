@@ -30,20 +30,20 @@ use Rattle.controller.specs.declared.slot.Slot.{Slot}
 -- ---- the accesses
 
 -- "width not 1, 2 or 4; offset not a multiple of the width; offset + width over 256"
-abbrev pub Unnamed : ℕ → ℕ → Type 0
-Unnamed offset width = ((width ≢ 1) × (width ≢ 2) × (width ≢ 4)) ⊎ (offset % width ≢ 0) ⊎ (limit < offset + width)
+abbrev pub NamesNoPlace : ℕ → ℕ → Type 0
+NamesNoPlace offset width = ((width ≢ 1) × (width ≢ 2) × (width ≢ 4)) ⊎ (offset % width ≢ 0) ⊎ (limit < offset + width)
 
 -- "value too big for the width"
-abbrev pub Unaimed : ℕ → ℕ → ℕ → Type 0
-Unaimed offset width value = Unnamed offset width ⊎ (2 ^ (8 * width) ≤ value)
+abbrev pub WritesNoPlace : ℕ → ℕ → ℕ → Type 0
+WritesNoPlace offset width value = NamesNoPlace offset width ⊎ (2 ^ (8 * width) ≤ value)
 
 -- the registers as a command's write would leave them
-abbrev pub Would : Slot → ℕ → ℕ → ℕ → Registers
-Would s offset width value = wouldBe s (editOf (offset % 4) width value)
+abbrev pub asWritten : Slot → ℕ → ℕ → ℕ → Registers
+asWritten s offset width value = wouldBe s (editOf (offset % 4) width value)
 
 -- a write that is a command: past the access test, with byte 00Fh among its bytes
 abbrev pub Commands : ℕ → ℕ → ℕ → Type 0
-Commands offset width value = (Unaimed offset width value → ⊥) × (issues offset width ≡ true)
+Commands offset width value = (WritesNoPlace offset width value → ⊥) × (issues offset width ≡ true)
 
 -- 4: "command with data or response type 11b, not Abort, while Command Inhibit (DAT) is 1"
 abbrev pub Crosses : Slot → Registers → Type 0
@@ -55,12 +55,12 @@ Dark r = (busClock r ≡ false) ⊎ (busPower r ≡ false)
 
 -- 1: "width not 1, 2 or 4; offset not a multiple of the width; offset + width over 256; value too big for the width"
 pub data Row1 (w : World) : Step → Type 0 where
-  reads : {offset width : ℕ} → Unnamed offset width → Row1 w (read offset width)
-  writes : {offset width value : ℕ} → Unaimed offset width value → Row1 w (write offset width value)
+  reads : {offset width : ℕ} → NamesNoPlace offset width → Row1 w (read offset width)
+  writes : {offset width value : ℕ} → WritesNoPlace offset width value → Row1 w (write offset width value)
 
 -- 2: "write wholly inside 004h-007h or 00Ch-00Dh while Command Inhibit (DAT) is 1"
 pub data Row2 (w : World) : Step → Type 0 where
-  guards : {offset width value : ℕ} → (Unaimed offset width value → ⊥) → guarded offset width ≡ true → inUse (useOf (w .slot .dat)) ≡ true
+  guards : {offset width value : ℕ} → (WritesNoPlace offset width value → ⊥) → guarded offset width ≡ true → inUse (useOf (w .slot .dat)) ≡ true
       → Row2 w (write offset width value)
 
 -- 3: "command while Command Inhibit (CMD) is 1"
@@ -70,20 +70,20 @@ pub data Row3 (w : World) : Step → Type 0 where
 -- 4, after 3
 pub data Row4 (w : World) : Step → Type 0 where
   crosses : {offset width value : ℕ} → Commands offset width value → occupied (w .slot .command) ≡ false
-      → Crosses (w .slot) (Would (w .slot) offset width value) → Row4 w (write offset width value)
+      → Crosses (w .slot) (asWritten (w .slot) offset width value) → Row4 w (write offset width value)
 
 -- 5, after 4
 pub data Row5 (w : World) : Step → Type 0 where
   dark : {offset width value : ℕ} → Commands offset width value → occupied (w .slot .command) ≡ false
-      → (Crosses (w .slot) (Would (w .slot) offset width value) → ⊥)
-      → Dark (Would (w .slot) offset width value) → Row5 w (write offset width value)
+      → (Crosses (w .slot) (asWritten (w .slot) offset width value) → ⊥)
+      → Dark (asWritten (w .slot) offset width value) → Row5 w (write offset width value)
 
 -- 6, after 5: "command setting not carried"
 pub data Row6 (w : World) : Step → Type 0 where
   uncarried : {offset width value : ℕ} → Commands offset width value → occupied (w .slot .command) ≡ false
-      → (Crosses (w .slot) (Would (w .slot) offset width value) → ⊥)
-      → (Dark (Would (w .slot) offset width value) → ⊥)
-      → notCarried (requestOf (Would (w .slot) offset width value)) ≡ true → Row6 w (write offset width value)
+      → (Crosses (w .slot) (asWritten (w .slot) offset width value) → ⊥)
+      → (Dark (asWritten (w .slot) offset width value) → ⊥)
+      → notCarried (requestOf (asWritten (w .slot) offset width value)) ≡ true → Row6 w (write offset width value)
 
 -- ---- the card's events
 
@@ -119,7 +119,8 @@ pub data Row7 (w : World) : Step → Type 0 where
   no-error : {n : ℕ} → (Erring (w .slot .dat) n → ⊥) → Row7 w (data-error n)
   no-card : {up : Bool} → w .slot .card ≡ false → Row7 w (level up)
 
--- 8: "block given of length other than the block size; room for a taken block below it"; "7 before 8"
+-- 8: "block given of length other than the block size; room for a taken block below it"; "7 before 8". Where fewer bytes are lent for the buffer than a
+-- block has, a block is what it holds (docs/DECISIONS.md, C16); the entries of `slot` lend 512
 pub data Row8 (w : World) : Step → Type 0 where
   other-length : {t : Transfer} {block : List ℕ} → w .slot .dat ≡ dat.Runs t → mayGive t (length (w .buffer)) ≡ true
       → length block ≢ blockOf (t .size) (length (w .buffer)) .0 → Row8 w (block-given block)

@@ -22,9 +22,6 @@ use Rattle.controller.specs.declared.slot.Stepped.{Stepped}
 abbrev pub powerOn : Slot
 powerOn = record { registers = block.powerOn; card = false; level = false; command = command.Idle; dat = dat.Free }
 
-abbrev pub withRegisters : Slot → Registers → Slot
-withRegisters s r = record { registers = r; card = s .card; level = s .level; command = s .command; dat = s .dat }
-
 -- other registers and other sides; the card and its level stay
 abbrev pub withSides : Slot → Registers → Command → Dat → Slot
 withSides s r c d = record { registers = r; card = s .card; level = s .level; command = c; dat = d }

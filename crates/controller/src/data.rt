@@ -1,6 +1,6 @@
 // The DAT side: blocks, busy over, data errors, turns.
 ghost use mathlib.Core.Path.{_≡_};
-ghost use Rattle.controller.specs.Data.{countsOf, fallenBlock, countedDown, outcomeAt, ringAt, passedOf, givenOf, takenOf, toldOf, busyOver, dataEvent, dataError, turnOf};
+ghost use Rattle.controller.specs.Data.{countsOf, fallenBlock, countedDown, outcomeAt, ringAt, passedOf, givenOf, takenOf, raisedStep, busyOver, dataEvent, dataError, turnOf};
 use crate::slot::Slot;
 use crate::slot::Stepped;
 use crate::slot::gives;
@@ -127,7 +127,7 @@ impl Slot {
 
     // The DAT side is as given, and an event is raised.
     fn told(self, dat: Dat, event: Event) -> Stepped
-        ensures { λ r. ⌜ r ≡ toldOf self dat event ⌝ }
+        ensures { λ r. ⌜ r ≡ raisedStep self dat event ⌝ }
     {
         let command = self.command;
         let r = raised_at(self.registers, event);

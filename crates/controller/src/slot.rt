@@ -1,6 +1,6 @@
 // The slot: its registers, its card, the command that waits, and the use of the DAT side.
 ghost use mathlib.Core.Path.{_≡_};
-ghost use Rattle.controller.specs.Slot.{powerOn, wayUsed, useOf, occupied, factsOf, lineNow, awaitedHalts, haltedDat, haltedCommand, answeredDat, raisedAt, withRegisters, withSides, steppedAs};
+ghost use Rattle.controller.specs.Slot.{powerOn, wayUsed, useOf, occupied, factsOf, lineNow, awaitedHalts, haltedDat, haltedCommand, answeredDat, raisedAt, withSides, steppedAs};
 use engine::transfer::Dat;
 use engine::transfer::Way;
 use registers::block::Registers;
@@ -197,13 +197,6 @@ impl Slot {
     {
         let i = self.registers.interrupts;
         i.line(self.level)
-    }
-
-    pub(crate) fn with_registers(mut self, r: Registers) -> Slot
-        ensures { λ z. ⌜ z ≡ withRegisters self r ⌝ }
-    {
-        self.registers = r;
-        self
     }
 
     // The slot with other registers and other sides; card and level stay.

@@ -14,12 +14,11 @@ use Rattle.registers.specs.declared.place.Target.{Target}
 use Rattle.registers.proofs.Lanes.{spans}
 use Rattle.registers.proofs.Exactly.{place-lies, misses-exactly}
 use Rattle.controller.specs.Access.{writeAt, writeOf}
-use Rattle.controller.specs.Steps.{write}
 use Rattle.controller.specs.declared.slot.Stepped.{Stepped}
 use Rattle.controller.proofs.Causes.{by-test}
 use Rattle.terms.specs.declared.Answer.{Answer}
 use Rattle.terms.specs.declared.Answer.the-variants.{Done, NoPlace, DatInhibited}
-use Rattle.controller.specs.Slot.{useOf, withRegisters, steppedAs}
+use Rattle.controller.specs.Slot.{useOf, withSides, steppedAs}
 use Rattle.controller.specs.declared.slot.Slot.{Slot}
 use Rattle.registers.specs.Interrupt.{acknowledged}
 use Rattle.registers.specs.Block.{withInterrupts}
@@ -28,7 +27,7 @@ use Rattle.registers.specs.Place.{words, find, wordAt, placeOf, fitsOf, placedO
 -- "the driver writes only the interrupt status registers": what holds of a refusal and of any acknowledgement holds of such a write
 pub write-acknowledges : (P : Stepped → Type 0) (s : Slot) (offset width value : ℕ) → 0x030 ≤ offset → offset + width ≤ 0x034
     → ((a : Answer) → P (steppedAs a s))
-    → ((bits : ℕ) → P (steppedAs (Done 0) (withRegisters s (withInterrupts (s .registers) (acknowledged bits (s .registers .interrupts))))))
+    → ((bits : ℕ) → P (steppedAs (Done 0) (withSides s (withInterrupts (s .registers) (acknowledged bits (s .registers .interrupts))) (s .command) (s .dat))))
     → P (writeOf s offset width value)
 unfolding targetOf words find wordAt takeOf takeFrom
 write-acknowledges P s offset width value low high kept made = go (placeOf offset width) refl

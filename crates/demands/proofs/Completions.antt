@@ -1,9 +1,11 @@
 -- Command Complete on a good response, two bits that stand side by side, and what raising an event does to each bit. Assumes nothing.
+use Prim.Native.Nat.{_^_}
+use native.Mathlib.Nat.{mul-one}
 use native.Mathlib.Omega.{arith}
 use mathlib.Core.Path.{_≡_, refl, sym, _∙_, subst}
 use mathlib.Core.Logic.{_≢_}
 use mathlib.Core.Bool.{true, false, and-false, false≢true}
-use borrow.Author.Tests.{eq-eqb, ne-eqb}
+use borrow.Author.Tests.{eq-eqb, ne-eqb, lt-ltb}
 use Rattle.terms.specs.Answers.{numberOf}
 use Rattle.registers.specs.Bits.{bitOf}
 use Rattle.registers.specs.Place.{words, find, wordAt, placeOf, lanesOf, placedOf, targetOf, guarded}
@@ -11,7 +13,7 @@ use Rattle.registers.specs.Word.{inUse, inhibits}
 use Rattle.registers.specs.Interrupt.{eventBit, eventSet}
 use Rattle.registers.specs.Access.{takeFrom, takeOf}
 use Rattle.registers.specs.declared.interrupt.Event.{Event}
-use Rattle.registers.specs.declared.interrupt.Event.the-variants.{CommandComplete, TransferComplete, DmaInterrupt, CardInsertion, CardRemoval, CommandTimeout, CommandCrc, CommandEndBit, CommandIndex, DataTimeout, DataCrc, DataEndBit, AdmaError}
+use Rattle.registers.specs.declared.interrupt.Event.the-variants.{CommandComplete}
 use Rattle.registers.specs.declared.block.Registers.{Registers}
 use Rattle.registers.specs.declared.block.Reply.{Reply}
 use Rattle.registers.specs.declared.place.Taker.the-variants.{Status}
@@ -19,7 +21,7 @@ use Rattle.registers.specs.declared.place.Word.the-variants.{Takes}
 use Rattle.registers.specs.declared.place.Target.{Target}
 use Rattle.registers.specs.declared.place.Target.the-variants.{At}
 use Rattle.registers.proofs.Standing.{raise-sets, raise-keeps, acknowledge-clears}
-use Rattle.registers.proofs.Events.{event-one, event-apart}
+use Rattle.registers.proofs.Events.{event-one, event-apart, event-fits}
 use Rattle.controller.specs.Slot.{useOf, raisedAt}
 use Rattle.controller.specs.Access.{writeAt}
 use Rattle.controller.specs.Card.{respondTo, respondOf}
@@ -28,7 +30,7 @@ use Rattle.controller.specs.declared.slot.Command.{Command}
 use Rattle.controller.specs.declared.slot.Command.the-variants as command
 use Rattle.controller.specs.declared.slot.Stepped.{Stepped}
 use Rattle.controller.proofs.Causes.{by-test}
-use Rattle.demands.specs.Line.{stands, enabled, Held, acknowledging, Beside}
+use Rattle.demands.specs.Line.{stands, enabled, Held, acknowledging, KeepsOther}
 use Rattle.demands.proofs.Held.{stays-one, unmuted-one, line-held, held}
 
 -- ---- raising an event
@@ -69,19 +71,7 @@ response-raises w words done on = held CommandComplete _ (go (w .slot .command) 
 -- 030h written with a 1 for one event alone
 aim : (one : Event) → targetOf 0x030 4 (eventSet one) ≡ At (Takes Status) (record { lanes = lanesOf 0 4; bits = eventSet one })
 unfolding targetOf placeOf placedOf wordAt words find
-aim CommandComplete = refl
-aim TransferComplete = refl
-aim DmaInterrupt = refl
-aim CardInsertion = refl
-aim CardRemoval = refl
-aim CommandTimeout = refl
-aim CommandCrc = refl
-aim CommandEndBit = refl
-aim CommandIndex = refl
-aim DataTimeout = refl
-aim DataCrc = refl
-aim DataEndBit = refl
-aim AdmaError = refl
+aim one = simp (lt-ltb (eventSet one) (2 ^ 32) (event-fits one), mul-one)
 
 -- "Writing 1 clears"
 clears : (one : Event) (w : World) → stands one (acknowledging one w) ≡ false
@@ -93,8 +83,8 @@ clears one w =
     (λ g. acknowledge-clears (eventSet one) (w .slot .registers .interrupts) (eventBit one) (own-bit one)))
 
 -- "acknowledging one leaves the other and the line"
-pub beside : (one other : Event) (w : World) → one ≢ other → stands other (w .slot) ≡ true → Beside one other w
-beside one other w n h =
+pub keeps-other : (one other : Event) (w : World) → one ≢ other → stands other (w .slot) ≡ true → KeepsOther one other w
+keeps-other one other w n h =
     let leaves = stays-one w (write 0x030 4 (eventSet one)) other (rw (aim one) (other-bit one other n)) h in
     record {
       cleared = clears one w;

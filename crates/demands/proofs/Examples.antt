@@ -1,14 +1,15 @@
 -- "no premise is empty": three commands with the paper's settings, each granted what demand 3 asks, and a fair run of each to its end. Assumes nothing.
-use Prim.Native.Nat.{ℕ, _<_}
+use Prim.Native.Nat.{ℕ, suc, _≤_, _<_}
 use native.Mathlib.Omega.{arith}
 use mathlib.Core.Path.{_≡_, refl, ap}
 use mathlib.Core.Logic.{_≢_, inl, inr}
 use mathlib.Core.List.{List, [], _∷_, _++_}
 use mathlib.Core.Bool.{Bool, true, false}
-use lib.ListN.{replicate, length-replicate}
+use lib.ListN.{length, take, replicate, length-replicate}
+use lib.Dec.{leb, eqb}
 use Rattle.terms.specs.Counts.{blocks}
 use Rattle.table.specs.Bench.{memory}
-use Rattle.table.specs.Line.{byteOf, lengthOf, addressOf, flagsOf}
+use Rattle.table.specs.Line.{lineBytes, byteOf, lengthOf, addressOf, flagsOf}
 use Rattle.table.specs.Fetch.{fetchOf}
 use Rattle.table.specs.Trace.{Kind, limit, onward, along, traceOf}
 use Rattle.table.specs.Survey.{kindOf}
@@ -29,14 +30,15 @@ use Rattle.controller.specs.Slot.{powerOn, lineNow}
 use Rattle.controller.specs.Command.{requestOf, commandStep}
 use Rattle.controller.specs.Card.{respondOf}
 use Rattle.controller.specs.Data.{dataError}
-use Rattle.controller.specs.Steps.{Step, read, write, card-in, response, block-given, block-taken, data-error, turn, World, stepOf}
+use Rattle.controller.specs.Steps.{Step, read, write, card-in, response, block-given, block-taken, data-error, level, turn, World, stepOf}
 use Rattle.controller.specs.declared.slot.Command.{Command}
 use Rattle.controller.specs.declared.slot.Command.the-variants.{Idle, Waits}
 use Rattle.controller.specs.declared.slot.Kind.the-variants.{Short}
 use Rattle.controller.proofs.Example.{start, steps}
-use Rattle.demands.specs.Run.{deeds, reached, passed}
+use Rattle.demands.specs.Run.{deeds, reached, turnsDone, passed}
 use Rattle.demands.specs.Issued.{Issued, traceAt}
 use Rattle.demands.specs.Granted.{Granted, AllFair}
+use Rattle.demands.proofs.Whole.{demand-3-whole}
 
 -- ---- what computes where an `unfolding` line names it
 
@@ -208,6 +210,11 @@ pub write-clears : viewAfter write-issued write-cleared
 unfolding viewAfter
 write-clears = refl
 
+-- "at most 2N + B turns do something": three, for its one line and its one block, in every fair order of steps
+pub write-bound : (es : List Step) → AllFair (deeds write-issued es) → turnsDone (deeds write-issued es) ≤ 3
+unfolding requestOf
+write-bound es fair = demand-3-whole write-issued 1 write-granted es fair .bound
+
 -- ---- "first byte 22h: 1, 01h": Valid is 0
 
 abbrev pub fault-issued : World
@@ -233,6 +240,27 @@ pub fault-fair : AllFair (deeds fault-issued fault-steps)
 unfolding deeds
 fault-fair = (inr refl, (inr tt, (inr tt, tt)))
 
+-- "the same permitted memory is lent": every memory of 1 to 16,777,216 bytes that begins with a line whose Valid is 0
+not-valid : (rest : List ℕ) → flagsOf (lineBytes (0 ∷ rest) 0) .valid ≡ false
+unfolding flagsOf byteOf
+not-valid rest = go (leb 8 (suc (length rest))) (eqb (suc (length (take 7 rest))) 8) refl refl
+  where
+    go : (t u : Bool) → leb 8 (suc (length rest)) ≡ t → eqb (suc (length (take 7 rest))) 8 ≡ u → flagsOf (lineBytes (0 ∷ rest) 0) .valid ≡ false
+    go false u e f = rw e
+    go true true e f = rw (e, f)
+    go true false e f = rw (e, f)
+
+pub largest-granted : (rest : List ℕ) → length rest < 16777216 → Granted (after 0x183A0001 Write (0 ∷ rest)) 1
+unfolding requestOf traceOf along fetchOf
+largest-granted rest h =
+    record {
+      issued = write-begins (0 ∷ rest);
+      buffer = omega (arith, length-replicate {A = ℕ} 512 0);
+      permitted = omega arith;
+      reaches = not-limit (traceAt (after 0x183A0001 Write (0 ∷ rest)) 1 .kind) 1 (rw (not-valid rest)) (omega arith);
+      clear = tt;
+    }
+
 -- it halts with 01h in 054h, the ADMA error stands, and the paper's settings do not signal it
 pub fault-ends : viewAfter fault-issued fault-steps
     ≡ record { dat = Halted Write; status = 0x02000001; fault = 1; line = false; memory = memory 0x22 0x10; passed = [] }
@@ -248,9 +276,9 @@ read-issued = after 0x113A0011 Read (memory 0x23 0x10)
 abbrev block : List ℕ
 block = 1 ∷ 2 ∷ 3 ∷ 4 ∷ 5 ∷ 6 ∷ 7 ∷ 8 ∷ []
 
--- two that are refused stand among them: a data error before the response, a write to 004h while DAT is in use
+-- two that are refused stand among them: a data error before the response, a write to 004h while DAT is in use; and the card's level goes up
 abbrev pub read-steps : List Step
-read-steps = data-error 0 ∷ write 0x004 2 0x4 ∷ good ∷ turn ∷ block-given block ∷ turn ∷ []
+read-steps = data-error 0 ∷ write 0x004 2 0x4 ∷ good ∷ level true ∷ turn ∷ block-given block ∷ turn ∷ []
 
 -- what demand 3 asks of a command, its table and the memory: the line's eight bytes at 0 lie apart from its data at 10h
 pub read-granted : Granted read-issued 1
@@ -267,7 +295,7 @@ read-granted =
 -- and of every step
 pub read-fair : AllFair (deeds read-issued read-steps)
 unfolding deeds accesses transfers
-read-fair = (inl (omega arith), (inl (omega arith), (inr refl, (inr tt, (inr tt, (inr tt, tt))))))
+read-fair = (inl (omega arith), (inl (omega arith), (inr refl, (inr tt, (inr tt, (inr tt, (inr tt, tt)))))))
 
 -- it completes, and memory holds the block given
 pub read-ends : viewAfter read-issued read-steps

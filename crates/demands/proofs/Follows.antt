@@ -3,9 +3,9 @@ use Prim.Native.Nat.{ℕ, suc, _+_}
 use native.Mathlib.Omega.{arith}
 use mathlib.Core.Path.{_≡_, refl, sym, ap, _∙_, subst}
 use mathlib.Core.List.{List, [], _++_, append-nil}
-use mathlib.Core.Bool.{Bool, true, false, cond, not, false≢true}
+use mathlib.Core.Bool.{Bool, true, false, cond, not}
 use lib.ListN.{take}
-use Rattle.terms.specs.Answers.{valueOf}
+use Rattle.terms.specs.Answers.{valueOf, isDone}
 use Rattle.registers.specs.Block.{withLow}
 use Rattle.registers.specs.declared.block.Adma.{Adma}
 use Rattle.registers.specs.declared.block.Registers.{Registers}
@@ -15,7 +15,7 @@ use Rattle.engine.specs.Transfer.{runsOf}
 use Rattle.engine.specs.Turn.{turnOf}
 use Rattle.engine.specs.Block.{givenOf, takenOf}
 use Rattle.engine.specs.Run as engine
-use Rattle.engine.specs.Run.{accepts, toldOf, awaitsOf, repliedOf, afterReply, afterTurn, afterBlock}
+use Rattle.engine.specs.Run.{toldOf, awaitsOf, repliedOf, afterReply, afterTurn, afterBlock}
 use Rattle.engine.specs.declared.transfer.Dat.{Dat}
 use Rattle.engine.specs.declared.transfer.Dat.the-variants.{Free, Busy, Runs, Stuck, Halted}
 use Rattle.engine.specs.declared.transfer.Outcome.{Outcome}
@@ -30,10 +30,10 @@ use Rattle.controller.specs.declared.slot.Command.{Command}
 use Rattle.controller.specs.declared.slot.Command.the-variants as command
 use Rattle.controller.specs.declared.slot.Slot.{Slot}
 use Rattle.controller.proofs.Causes.{by-test}
-use Rattle.controller.proofs.Effects.{awaiting}
 use Rattle.controller.proofs.Paired.{Beside}
 use Rattle.demands.specs.Run.{countTurn, passing}
-use Rattle.demands.proofs.Leads.{Leads, stays, goes, completes, fails, ended, turn-leads, given-leads, taken-leads}
+use Rattle.demands.proofs.Sides.{never, awaits-too}
+use Rattle.demands.proofs.Leads.{Leads, stays, goes, completes, fails, turn-leads, given-leads, taken-leads}
 
 -- is the DAT side anything but busy?
 abbrev pub carries : Dat → Bool
@@ -69,13 +69,10 @@ pub tale : {w : World} {v : engine.World} → Follows w v → Tells (w .slot .da
 tale f = (f .waits, rw (f .dat) (f .silent), f .fault, rw (f .dat) (f .carrying))
 
 -- and back
-pub made : (w : World) (v : engine.World) → w .slot .dat ≡ v .dat → w .slot .registers .adma .low ≡ v .table → w .buffer ≡ v .buffer → w .memory ≡ v .memory
-    → Tells (w .slot .dat) (w .slot .command) (v .told) (w .slot .registers .adma .fault) → Follows w v
+pub made : (w : World) (v : engine.World) → w .slot .dat ≡ v .dat → w .slot .registers .adma .low ≡ v .table → w .buffer ≡ v .buffer
+    → w .memory ≡ v .memory → Tells (w .slot .dat) (w .slot .command) (v .told) (w .slot .registers .adma .fault) → Follows w v
 made w v d t x m (b, s, f, k) =
     record { dat = d; table = t; buffer = x; memory = m; waits = b; silent = rw d at s; fault = f; carrying = rw d at k }
-
-never : {A : Type 0} → false ≡ true → A
-never e = absurd (false≢true e)
 
 -- a turn or a block tells the end of a transfer, once
 lead-tells : (c : Command) (told : Outcome) (r : Registers) {d : Dat} {p : Passed} → Leads d p → Tells d c told (r .adma .fault)
@@ -92,16 +89,16 @@ lead-tells c told r fails (b, s, f, k) = rw (s refl) (never, never, λ state e. 
 
 -- a response tells nothing; to the engine it is none where none is awaited
 answer-tells : {c : Command} {told : Outcome} {fault : ℕ} (d : Dat) → Tells d c told fault
-    → Tells (answeredDat d) command.Idle told fault × (answeredDat d ≡ cond (awaitsOf d) (repliedOf d) d) × (awaitsOf d ≡ true → awaiting d ≡ true)
-answer-tells Free (b, s, f, k) = ((never, s, f, k), refl, λ a. a)
+    → Tells (answeredDat d) command.Idle told fault × (answeredDat d ≡ cond (awaitsOf d) (repliedOf d) d)
+answer-tells Free (b, s, f, k) = ((never, s, f, k), refl)
 answer-tells (Busy answered) (b, s, f, k) = never k
-answer-tells (Runs t) (b, s, f, k) = ((never, s, f, k), go (t .answered) refl, λ a. a)
+answer-tells (Runs t) (b, s, f, k) = ((never, s, f, k), go (t .answered) refl)
   where
     go : (b : Bool) → t .answered ≡ b → Runs (transfer.respondOf t) ≡ cond (not b) (Runs (transfer.respondOf t)) (Runs t)
     go true e = rw e
     go false e = refl
-answer-tells Stuck (b, s, f, k) = ((never, s, f, k), refl, λ a. a)
-answer-tells (Halted way) (b, s, f, k) = ((never, s, f, k), refl, λ a. a)
+answer-tells Stuck (b, s, f, k) = ((never, s, f, k), refl)
+answer-tells (Halted way) (b, s, f, k) = ((never, s, f, k), refl)
 
 -- ---- one event
 
@@ -128,7 +125,7 @@ Holds a r = r .adma ≡ a
 pub passed-is : (s : Slot) {d : Dat} {p : Passed} → s .dat ≡ d → Leads d p
     → passedAs s p
     ≡ steppedAs (p .answer)
-    (withSides s (outcomeAt (p .outcome) (cond (accepts (p .answer)) (countedDown (s .dat) (s .registers)) (s .registers))) (s .command) (p .dat))
+    (withSides s (outcomeAt (p .outcome) (cond (isDone (p .answer)) (countedDown (s .dat) (s .registers)) (s .registers))) (s .command) (p .dat))
 passed-is s e (stays n) = rw (n, ← e)
 passed-is s e goes = refl
 passed-is s e completes = refl
@@ -152,15 +149,15 @@ module _ (w : World) (v : engine.World) (f : Follows w (seen w v)) where
   blocked : (p : Passed) (x : List ℕ) (block : ℕ → List ℕ) → Leads (w .slot .dat) p
       → let after = afterBlock (seen w v) p x (block (valueOf (p .answer))) in
       Follows (record { slot = passedAs (w .slot) p .slot; buffer = x; memory = w .memory }) after
-      × (after .passed ≡ v .passed ++ let a = passedAs (w .slot) p .answer in cond (accepts a) (block (valueOf a)) [])
+      × (after .passed ≡ v .passed ++ let a = passedAs (w .slot) p .answer in cond (isDone a) (block (valueOf a)) [])
   blocked p x block l =
       let r = w .slot .registers in
       let counted = by-test (Holds (r .adma)) (countsOf (w .slot .dat)) (λ c. refl) (λ c. refl) in
       rw (passed-is (w .slot) refl l) (
-        moved l (cond (accepts (p .answer)) (countedDown (w .slot .dat) r) r) (r .adma .low)
-            (by-test (Holds (r .adma)) (accepts (p .answer)) (λ a. counted) (λ a. refl)) x (w .memory)
+        moved l (cond (isDone (p .answer)) (countedDown (w .slot .dat) r) r) (r .adma .low)
+            (by-test (Holds (r .adma)) (isDone (p .answer)) (λ a. counted) (λ a. refl)) x (w .memory)
             (afterBlock (seen w v) p x (block (valueOf (p .answer)))),
-        joined (accepts (p .answer)) (block (valueOf (p .answer))),
+        joined (isDone (p .answer)) (block (valueOf (p .answer))),
       )
     where
       joined : (t : Bool) (bytes : List ℕ) → cond t (v .passed ++ bytes) (v .passed) ≡ v .passed ++ cond t bytes []
@@ -174,7 +171,7 @@ module _ (w : World) (v : engine.World) (f : Follows w (seen w v)) where
       let low = withLow (w .slot .registers) (r .0 .table) in (
         moved (turn-leads (w .slot .dat) (w .slot .registers .adma .low) (w .buffer) (w .memory)) (ringAt (r .0 .int) low) (r .0 .table)
             (by-test (Holds (low .adma)) (r .0 .int) (λ i. refl) (λ i. refl)) (r .1) (r .2) (afterTurn (seen w v) r),
-        counted (accepts (r .0 .answer)),
+        counted (isDone (r .0 .answer)),
         sym (append-nil (v .passed)),
       )
     where
@@ -198,9 +195,9 @@ module _ (w : World) (v : engine.World) (f : Follows w (seen w v)) where
   response-along : (words : Reply) → Along w (response 0 words) (seen w v) (engine.next (seen w v) engine.reply)
   unfolding stepOf respondOf engine.next
   response-along words =
-      let (t, e, asks) = answer-tells (w .slot .dat) (tale f) in
+      let (t, e) = answer-tells (w .slot .dat) (tale f) in
       by-test P (awaitsOf (w .slot .dat))
-      (λ a. let (q, z) = f .waits (asks a) in rw z (good q (afterReply (seen w v)) (rw a at e), λ n. refl, sym (append-nil (v .passed))))
+      (λ a. let (q, z) = f .waits (awaits-too (w .slot .dat) a) in rw z (good q (afterReply (seen w v)) (rw a at e), λ n. refl, sym (append-nil (v .passed))))
       (λ a. (unasked (rw a at e) (w .slot .command), λ n. refl, sym (append-nil (v .passed))))
     where
       After : Command → engine.World → Type 0

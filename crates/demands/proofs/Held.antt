@@ -26,6 +26,7 @@ use Rattle.registers.specs.declared.place.Target.the-variants as target
 use Rattle.registers.specs.declared.reset.Resets.{Resets}
 use Rattle.registers.specs.declared.block.Registers.{Registers}
 use Rattle.registers.specs.declared.block.Reply.{Reply}
+use Rattle.registers.proofs.Tests.{law}
 use Rattle.registers.proofs.Sets.{bit-or}
 use Rattle.registers.proofs.Standing.{after-raise, after-choice, after-enable, acknowledge-keeps, line-up}
 use Rattle.registers.proofs.Events.{event-one, raisable, event-raisable}
@@ -33,7 +34,6 @@ use Rattle.registers.proofs.Derived.{none-within}
 use Rattle.engine.specs.Turn as engine
 use Rattle.engine.specs.Block as block
 use Rattle.engine.specs.declared.transfer.Dat.{Dat}
-use Rattle.engine.specs.declared.transfer.Dat.the-variants as dat
 use Rattle.engine.specs.declared.transfer.Outcome.{Outcome}
 use Rattle.engine.specs.declared.transfer.Outcome.the-variants.{Goes, Completes, Fails}
 use Rattle.engine.specs.declared.block.Passed.{Passed}
@@ -48,7 +48,8 @@ use Rattle.controller.specs.declared.slot.Command.the-variants as command
 use Rattle.controller.specs.declared.slot.Slot.{Slot}
 use Rattle.controller.specs.declared.slot.Stepped.{Stepped}
 use Rattle.controller.proofs.Causes.{by-test}
-use Rattle.demands.specs.Line.{stands, signalled, takerDrops, takerMutes, aimedBy, writesSo, drops, mutes, Visit, visited, onward, Spared, Unmuted, Held}
+use Rattle.demands.proofs.Sides.{by-dat}
+use Rattle.demands.specs.Line.{stands, signalled, takerDrops, takerMutes, aimedBy, writesSo, drops, mutes, Visit, visited, afterVisits, Spared, Unmuted, Held}
 
 -- ---- one step, for whatever is said of the interrupts
 
@@ -81,18 +82,15 @@ module _ (takes : Taker → Edit → ℕ → Bool) (k : ℕ) (P : Interrupts →
       (λ e. outcome-keeps (p .outcome) _ (by-test (λ (r : Registers). P (r .interrupts)) (countsOf (s .dat)) (λ c. h) (λ c. h))) (λ e. h)
 
   busy-keeps : (s : Slot) (d : Dat) → Keeps s → Leaves (busyOverAt d s)
-  busy-keeps s dat.Free h = h
-  busy-keeps s (dat.Busy answered) h = by-test Leaves answered (λ e. raise-keeps TransferComplete (s .registers) h) (λ e. h)
-  busy-keeps s (dat.Runs t) h = h
-  busy-keeps s dat.Stuck h = h
-  busy-keeps s (dat.Halted way) h = h
+  busy-keeps s d h =
+      by-dat (λ d. Leaves (busyOverAt d s)) h
+      (λ a. by-test Leaves a (λ e. raise-keeps TransferComplete (s .registers) h) (λ e. h)) h (λ way. h) (λ t. h) d
 
   error-keeps : (s : Slot) (n : ℕ) (d : Dat) → Keeps s → Leaves (dataErrorAt d s n)
-  error-keeps s n dat.Free h = h
-  error-keeps s n (dat.Busy answered) h = by-test Leaves (answered && eqb n 0) (λ e. raise-keeps (dataEvent n) (s .registers) h) (λ e. h)
-  error-keeps s n (dat.Runs t) h = by-test Leaves (t .answered && ltb n 3) (λ e. raise-keeps (dataEvent n) (s .registers) h) (λ e. h)
-  error-keeps s n dat.Stuck h = h
-  error-keeps s n (dat.Halted way) h = h
+  error-keeps s n d h =
+      by-dat (λ d. Leaves (dataErrorAt d s n)) h
+      (λ a. by-test Leaves (a && eqb n 0) (λ e. raise-keeps (dataEvent n) (s .registers) h) (λ e. h)) h (λ way. h)
+      (λ t. by-test Leaves (t .answered && ltb n 3) (λ e. raise-keeps (dataEvent n) (s .registers) h) (λ e. h)) d
 
   response-keeps : (s : Slot) (n : ℕ) (words : Reply) (c : Command) → Keeps s → Leaves (respondTo c s n words)
   response-keeps s n words command.Idle h = h
@@ -159,9 +157,7 @@ choice-keeps : (old : ℕ) (e : Edit) (k : ℕ) → bitOf carried k ≡ true →
 choice-keeps old e k c d h = after-choice old e k ∙ rw (h, c) (go (bitOf (e .lanes) k) (bitOf (e .bits) k) d)
   where
     go : (lane bit : Bool) → (lane && not bit) ≡ false → (not lane || (bit && true)) ≡ true
-    go true true d = refl
-    go true false d = absurd (true≢false d)
-    go false bit d = refl
+    go = law 2 _ _ _ refl
 
 -- so a status bit stays with an enable that is not written 0
 enable-stands : (e : Edit) (i : Interrupts) (k : ℕ) → bitOf carried k ≡ true → (bitOf (e .lanes) k && not (bitOf (e .bits) k)) ≡ false
@@ -176,13 +172,9 @@ enable-stands e i k c d h = after-enable e i k ∙ rw h (go (bitOf (i .enabled) 
 reset-signals : (which : Resets) (r : Registers) (k : ℕ) → which .all ≡ false → bitOf (r .interrupts .signal) k ≡ true
     → bitOf (resetWith which r .interrupts .signal) k ≡ true
 unfolding resetWith
-reset-signals which r k d h = rw d (go (which .command) (which .«data»))
-  where
-    go : (c t : Bool) → bitOf (resetWith (record { all = false; command = c; «data» = t }) r .interrupts .signal) k ≡ true
-    go true true = h
-    go true false = h
-    go false true = h
-    go false false = h
+reset-signals which r k d h =
+    let P : Registers → Type 0 = λ x. bitOf (x .interrupts .signal) k ≡ true in
+    rw d (by-test P (which .command) (λ c. by-test P (which .«data») (λ t. h) (λ t. h)) (λ c. by-test P (which .«data») (λ t. h) (λ t. h)))
 
 -- it clears one status bit, and no other
 clear-stands : (event : Event) (i : Interrupts) (k : ℕ) → eqb k (eventBit event) ≡ false → bitOf (i .status) k ≡ true
@@ -261,14 +253,14 @@ line-held event s h e =
     line-up (s .level) i (eventBit event) (event-within counted refl event, rw (bit-or, bit-or, h), e)
 
 -- it stands until it is dropped
-run-stays : (event : Event) (s : Slot) (vs : List Visit) → Spared event vs → stands event s ≡ true → stands event (onward s vs) ≡ true
-unfolding onward
+run-stays : (event : Event) (s : Slot) (vs : List Visit) → Spared event vs → stands event s ≡ true → stands event (afterVisits s vs) ≡ true
+unfolding afterVisits
 run-stays event s [] n h = h
 run-stays event s (v ∷ vs) (d, n) h = run-stays event (visited s v) vs n (stays-one _ (v .step) event d h)
 
 -- and is signalled until it is muted
-run-signals : (event : Event) (s : Slot) (vs : List Visit) → Unmuted event vs → signalled event s ≡ true → signalled event (onward s vs) ≡ true
-unfolding onward
+run-signals : (event : Event) (s : Slot) (vs : List Visit) → Unmuted event vs → signalled event s ≡ true → signalled event (afterVisits s vs) ≡ true
+unfolding afterVisits
 run-signals event s [] n h = h
 run-signals event s (v ∷ vs) (d, n) h = run-signals event (visited s v) vs n (unmuted-one _ (v .step) event d h)
 
@@ -277,6 +269,6 @@ pub held : (event : Event) (s : Slot) → stands event s ≡ true → Held event
 held event s h =
     record {
       stays = λ vs n. run-stays event s vs n h;
-      up = λ vs n e. line-held event (onward s vs) (run-stays event s vs n h) e;
-      holds = λ vs n m e. line-held event (onward s vs) (run-stays event s vs n h) (run-signals event s vs m e);
+      up = λ vs n e. line-held event (afterVisits s vs) (run-stays event s vs n h) e;
+      holds = λ vs n m e. line-held event (afterVisits s vs) (run-stays event s vs n h) (run-signals event s vs m e);
     }

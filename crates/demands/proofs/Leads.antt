@@ -16,24 +16,24 @@ use Rattle.engine.specs.Transfer.{withCounts, datOf, outcomeOf}
 use Rattle.engine.specs.Buffer.{blockOf, heldOf, readyOf}
 use Rattle.engine.specs.Turn.{refusedAs, seenNext, onwardOf, carryOf, movingOf, answeredOf, runningOf, stagedOf, turnOf}
 use Rattle.engine.specs.Block.{keptAs, mayGive, giveOf, givenOf, mayTake, emptiedOf, takeOf, takenOf}
-use Rattle.engine.specs.Run.{accepts}
+use Rattle.terms.specs.Answers.{isDone}
 use Rattle.engine.specs.declared.transfer.Way.{Way}
 use Rattle.engine.specs.declared.transfer.Stage.{Stage}
 use Rattle.engine.specs.declared.transfer.Stage.the-variants.{Fetching, Moving, Stopped}
 use Rattle.engine.specs.declared.transfer.Transfer.{Transfer}
 use Rattle.engine.specs.declared.transfer.Dat.{Dat}
-use Rattle.engine.specs.declared.transfer.Dat.the-variants.{Free, Busy, Runs, Stuck, Halted}
+use Rattle.engine.specs.declared.transfer.Dat.the-variants.{Free, Runs, Halted}
 use Rattle.engine.specs.declared.transfer.Next.{Next}
 use Rattle.engine.specs.declared.transfer.Next.the-variants.{Fetch, Move, Stop, Finish, Fail}
 use Rattle.engine.specs.declared.transfer.Outcome.the-variants.{Goes, Completes, Fails}
 use Rattle.engine.specs.declared.turn.Turned.{Turned}
 use Rattle.engine.specs.declared.block.Passed.{Passed}
-use Rattle.controller.specs.Steps.{turn}
 use Rattle.controller.proofs.Causes.{by-test}
+use Rattle.demands.proofs.Sides.{by-dat}
 
 -- it is refused; or the transfer goes on, completes, or fails, with what this tells
 pub data Leads : Dat → Passed → Type 0 where
-  stays : {d : Dat} {a : Answer} → accepts a ≡ false → Leads d (keptAs d a)
+  stays : {d : Dat} {a : Answer} → isDone a ≡ false → Leads d (keptAs d a)
   goes : {t : Transfer} {n : ℕ} {left : BlockCount} {owed held : ByteCount} {stage : Stage}
       → Leads (Runs t) (record { answer = Done n; dat = Runs (withCounts t left owed held stage); outcome = Goes })
   completes : {t : Transfer} {n : ℕ} → Leads (Runs t) (record { answer = Done n; dat = Free; outcome = Completes })
@@ -78,11 +78,7 @@ turn-leads d table x mem = by-test (P d) (tooLarge mem) (λ l. stays refl) (λ l
         (λ z. by-test (P (Runs t)) (inMemory (length mem) at (n .0)) (λ i. next-leads t _ _ _ _ still) (λ i. fails)))
 
     staged : (d : Dat) → P d (stagedOf d table x mem)
-    staged Free = stays refl
-    staged (Busy answered) = stays refl
-    staged (Runs t) = going t (t .stage)
-    staged Stuck = stays refl
-    staged (Halted way) = stays refl
+    staged = by-dat (λ d. P d (stagedOf d table x mem)) (stays refl) (λ a. stays refl) (stays refl) (λ way. stays refl) (λ t. going t (t .stage))
 
 abbrev Led : Dat → Passed × List ℕ → Type 0
 Led d r = Leads d (r .0)
@@ -90,24 +86,16 @@ Led d r = Leads d (r .0)
 -- a block given
 pub given-leads : (d : Dat) (x block : List ℕ) → Led d (givenOf d x block)
 unfolding giveOf
-given-leads Free x block = stays refl
-given-leads (Busy answered) x block = stays refl
-given-leads (Runs t) x block =
-    by-test (Led (Runs t)) (mayGive t (length x))
-    (λ m. by-test (Led (Runs t)) (eqb (length block) (blockOf (t .size) (length x) .0)) (λ q. goes) (λ q. stays refl))
-    (λ m. stays refl)
-given-leads Stuck x block = stays refl
-given-leads (Halted way) x block = stays refl
+given-leads d x block =
+    by-dat (λ d. Led d (givenOf d x block)) (stays refl) (λ a. stays refl) (stays refl) (λ way. stays refl)
+    (λ t. by-test (Led (Runs t)) (mayGive t (length x))
+    (λ m. by-test (Led (Runs t)) (eqb (length block) (blockOf (t .size) (length x) .0)) (λ q. goes) (λ q. stays refl)) (λ m. stays refl)) d
 
 -- a block taken
 pub taken-leads : (d : Dat) (x room : List ℕ) → Led d (takenOf d x room)
 unfolding takeOf
-taken-leads Free x room = stays refl
-taken-leads (Busy answered) x room = stays refl
-taken-leads (Runs t) x room =
-    by-test (Led (Runs t)) (mayTake t (length x))
+taken-leads d x room =
+    by-dat (λ d. Led d (takenOf d x room)) (stays refl) (λ a. stays refl) (stays refl) (λ way. stays refl)
+    (λ t. by-test (Led (Runs t)) (mayTake t (length x))
     (λ m. by-test (Led (Runs t)) (ltb (length room) (blockOf (t .size) (length x) .0)) (λ q. stays refl)
-    (λ q. next-leads t _ _ _ _ (emptiedOf (t .stage) (fewer (t .left)))))
-    (λ m. stays refl)
-taken-leads Stuck x room = stays refl
-taken-leads (Halted way) x room = stays refl
+    (λ q. next-leads t _ _ _ _ (emptiedOf (t .stage) (fewer (t .left))))) (λ m. stays refl)) d

@@ -3,6 +3,7 @@ pub mod Exact
 pub mod Begun
 pub mod Surveyed
 pub mod Acknowledges
+pub mod Sides
 pub mod Leads
 pub mod Follows
 pub mod Mirrors

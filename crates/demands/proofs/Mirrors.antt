@@ -4,17 +4,14 @@ use native.Mathlib.Omega.{arith}
 use mathlib.Core.Path.{_≡_, refl, sym, _∙_}
 use mathlib.Core.Logic.{_≢_, inl, inr}
 use mathlib.Core.List.{List, [], _∷_, _++_, append-nil, append-assoc}
-use mathlib.Core.Bool.{Bool, true, false≢true}
+use mathlib.Core.Bool.{Bool, true}
 use Rattle.terms.specs.Answers.{numberOf}
 use Rattle.terms.specs.declared.Answer.the-variants.{Done}
-use Rattle.registers.specs.Place.{words}
 use Rattle.registers.specs.Block.{withInterrupts}
 use Rattle.registers.specs.declared.block.Reply.{Reply}
 use Rattle.registers.specs.declared.interrupt.Interrupts.{Interrupts}
 use Rattle.engine.specs.Run as engine
 use Rattle.engine.proofs.Drive.{run-append}
-use Rattle.engine.specs.declared.transfer.Dat.{Dat}
-use Rattle.engine.specs.declared.transfer.Dat.the-variants.{Free, Busy, Runs, Stuck, Halted}
 use Rattle.controller.specs.Slot.{steppedAs}
 use Rattle.controller.specs.Access.{writeOf}
 use Rattle.controller.specs.Data.{busyOverAt, busyOver}
@@ -26,6 +23,7 @@ use Rattle.controller.proofs.Refused.{refused}
 use Rattle.demands.specs.Run.{deeds, reached, countTurn, turnsDone, passing, passed}
 use Rattle.demands.specs.Granted.{Permitted, Fair, AllFair}
 use Rattle.demands.proofs.Acknowledges.{write-acknowledges}
+use Rattle.demands.proofs.Sides.{by-dat, never}
 use Rattle.demands.proofs.Follows.{carries, Follows, tale, made, Along, stepWith, event-along}
 
 -- ---- the steps that are nothing to the engine
@@ -44,14 +42,8 @@ module _ (w : World) (v : engine.World) (f : Follows w v) where
   -- no busy is there to be over
   over-stays : Stays (busyOver (w .slot))
   unfolding busyOver
-  over-stays = go (w .slot .dat) (tale f .3)
-    where
-      go : (d : Dat) → carries d ≡ true → Stays (busyOverAt d (w .slot))
-      go Free k = f
-      go (Busy answered) k = absurd (false≢true k)
-      go (Runs t) k = f
-      go Stuck k = f
-      go (Halted way) k = f
+  over-stays =
+      by-dat (λ d. carries d ≡ true → Stays (busyOverAt d (w .slot))) (λ k. f) (λ a. never) (λ k. f) (λ way k. f) (λ t k. f) (w .slot .dat) (tale f .3)
 
   -- "the driver writes only the interrupt status registers"
   write-stays : (offset width value : ℕ) → 0x030 ≤ offset → offset + width ≤ 0x034 → Stays (writeOf (w .slot) offset width value)

@@ -1,10 +1,10 @@
 -- Demand 3 over every run of the whole controller, from the world right after an accepted data command. Assumes nothing.
-use Prim.Native.Nat.{ℕ, _+_, _*_, _≤_}
+use Prim.Native.Nat.{ℕ, _+_}
 use native.Mathlib.Omega.{arith}
 use mathlib.Core.Path.{_≡_, refl, sym, ap, _∙_}
 use mathlib.Core.Logic.{_↔_}
-use mathlib.Core.List.{List, [], _∷_, _++_}
-use mathlib.Core.Bool.{Bool, true, false, cond, false≢true}
+use mathlib.Core.List.{List}
+use mathlib.Core.Bool.{true, false}
 use lib.ListN.{length}
 use lib.Dec.{eqb}
 use Rattle.terms.specs.Answers.{numberOf}
@@ -13,52 +13,37 @@ use Rattle.table.specs.Sound.{Sound}
 use Rattle.table.proofs.Sound.{well-sound, well-exactly, sound-one}
 use Rattle.registers.specs.declared.block.Reply.{Reply}
 use Rattle.engine.specs.Transfer.{issued, runsOf}
-use Rattle.engine.specs.Turn as turns
-use Rattle.engine.specs.Block as blocks
 use Rattle.engine.specs.Run as engine
 use Rattle.engine.specs.Demand as demand
 use Rattle.engine.specs.Demand.{Premise, endOf, endsAs, Demand}
 use Rattle.engine.specs.declared.transfer.Way.{Way}
-use Rattle.engine.specs.declared.transfer.Dat.{Dat}
-use Rattle.engine.specs.declared.transfer.Dat.the-variants.{Free, Busy, Runs, Stuck, Halted}
-use Rattle.engine.specs.declared.transfer.Outcome.the-variants.{Goes, Completes, Fails}
+use Rattle.engine.specs.declared.transfer.Dat.the-variants.{Free, Halted}
+use Rattle.engine.specs.declared.transfer.Outcome.the-variants.{Completes}
 use Rattle.engine.specs.declared.block.Passed.{Passed}
 use Rattle.engine.proofs.Demand3.{demand-3}
 use Rattle.engine.proofs.Drive.{run-append, demand-3-ends}
 use Rattle.engine.proofs.Ends.{completed}
-use Rattle.controller.specs.Slot.{steppedAs}
 use Rattle.controller.specs.Card.{respondTo, respondOf}
-use Rattle.controller.specs.Data.{passedOf, passedAs}
+use Rattle.controller.specs.Data.{passedAs}
 use Rattle.controller.specs.Steps.{Step, response, World, stepOf}
 use Rattle.controller.specs.declared.slot.Command.{Command}
-use Rattle.controller.specs.declared.slot.Command.the-variants.{Waits}
 use Rattle.controller.specs.declared.slot.Slot.{Slot}
-use Rattle.controller.proofs.Effects.{awaiting}
+use Rattle.controller.specs.declared.slot.Stepped.{Stepped}
+use Rattle.controller.proofs.Causes.{by-test}
 use Rattle.demands.specs.Run.{deeds, reached, turnsDone, passed, running}
 use Rattle.demands.specs.Issued.{asked, blocksOf, sizeOf, wayOf, owedOf, tableOf, traceAt}
 use Rattle.demands.specs.Granted.{Granted, AllFair}
 use Rattle.demands.specs.Whole.{Open, by-turn, by-response, by-given, by-taken, Completed, Driven, Whole}
+use Rattle.demands.proofs.Sides.{awaits-too}
 use Rattle.demands.proofs.Begun.{Begun, begun}
 use Rattle.demands.proofs.Follows.{Follows}
 use Rattle.demands.proofs.Mirrors.{follows, mirrors}
 
 -- ---- what is open to the engine is open to the controller
 
--- a transfer that awaits its response is a use that does
-awaits-too : (d : Dat) → engine.awaitsOf d ≡ true → awaiting d ≡ true
-awaits-too Free e = e
-awaits-too (Busy answered) e = absurd (false≢true e)
-awaits-too (Runs t) e = e
-awaits-too Stuck e = e
-awaits-too (Halted way) e = e
-
 -- a block event is answered as the engine answers it
 same-answer : (s : Slot) (p : Passed) → passedAs s p .answer ≡ p .answer
-same-answer s p = go (eqb (numberOf (p .answer)) 0)
-  where
-    go : (t : Bool) → cond t (steppedAs (p .answer) (passedOf s (p .dat) (p .outcome))) (steppedAs (p .answer) s) .answer ≡ p .answer
-    go true = refl
-    go false = refl
+same-answer s p = by-test (λ (x : Stepped). x .answer ≡ p .answer) (eqb (numberOf (p .answer)) 0) (λ e. refl) (λ e. refl)
 
 module _ (w : World) (v : engine.World) (f : Follows w v) where
   answers : engine.awaitsOf (v .dat) ≡ true → (words : Reply) → numberOf (stepOf w (response 0 words) .answer) ≡ 0
@@ -78,7 +63,7 @@ module _ (w : World) (v : engine.World) (f : Follows w v) where
 -- ---- how an end stands
 
 -- DAT is free only after a table that goes well
-free-well : (way : Way) (k : Kind) → endsAs way k ≡ Free → k ≡ well
+pub free-well : (way : Way) (k : Kind) → endsAs way k ≡ Free → k ≡ well
 free-well way well e = refl
 free-well way (fault state) e = cc
 free-well way limit e = cc
@@ -98,7 +83,7 @@ module _ (w : World) (lines : ℕ) (h : Granted w lines) where
         small = omega (arith, start .small, h .buffer);
         permitted = h .permitted;
         reaches = h .reaches;
-        sure = h .clear;
+        clear = h .clear;
       }
 
   pub starts : Follows w first

@@ -7,7 +7,8 @@ use lib.ListN.{length}
 use Rattle.terms.specs.Answers.{numberOf}
 use Rattle.table.specs.Memory.{memoryLimit}
 use Rattle.table.specs.Trace.{limit}
-use Rattle.engine.specs.Demand.{Sure}
+use Rattle.engine.specs.Demand.{Uncovered}
+use Rattle.controller.specs.Command.{largestBlock}
 use Rattle.controller.specs.Steps.{Step, read, write, card-in, card-out, response, block-given, block-taken, busy-over, data-error, level, turn, World}
 use Rattle.demands.specs.Run.{Deed}
 use Rattle.demands.specs.Issued.{Issued, wayOf, traceAt}
@@ -18,13 +19,13 @@ pub record Granted (w : World) (lines : ℕ) : Type 0 where
   -- "A data command that has just issued"
   pub issued : Issued w
   -- "The buffer is one block": the slot's own buffer has room for the largest
-  pub buffer : 512 ≤ length (w .buffer)
+  pub buffer : largestBlock ≤ length (w .buffer)
   -- "the same permitted memory is lent": at most 16,777,216 bytes
   pub permitted : length (w .memory) ≤ memoryLimit
   -- "whose table reaches End or a fault within N lines"
   pub reaches : traceAt w lines .kind ≢ limit
   -- "on a read no named data covers a followed line": a failing line is followed too, and counts with all its eight bytes
-  pub clear : Sure (wayOf w) (traceAt w lines)
+  pub clear : Uncovered (wayOf w) (traceAt w lines)
 
 -- ---- of every step
 

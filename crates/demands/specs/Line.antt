@@ -2,6 +2,7 @@
 -- enable. Assumes nothing: these are definitions.
 use Prim.Native.Nat.{ℕ}
 use mathlib.Core.Path.{_≡_}
+use mathlib.Core.Logic.{_≢_}
 use mathlib.Core.List.{List, [], _∷_}
 use mathlib.Core.Bool.{Bool, true, false, not, _&&_, _||_}
 use lib.Dec.{eqb}
@@ -110,9 +111,9 @@ pub record Visit : Type 0 where
 abbrev pub visited : Slot → Visit → Slot
 visited s v = stepOf (record { slot = s; buffer = v .buffer; memory = v .memory }) (v .step) .world .slot
 
-unfoldable pub onward : Slot → List Visit → Slot
-onward s [] = s
-onward s (v ∷ vs) = onward (visited s v) vs
+unfoldable pub afterVisits : Slot → List Visit → Slot
+afterVisits s [] = s
+afterVisits s (v ∷ vs) = afterVisits (visited s v) vs
 
 -- no step of a run drops the bit
 abbrev pub Spared : Event → List Visit → Type 0
@@ -127,11 +128,11 @@ Unmuted event (v ∷ vs) = (mutes (v .step) event ≡ false) × Unmuted event vs
 -- what a bit that stands promises of every run from there
 pub record Held (event : Event) (s : Slot) : Type 0 where
   -- it stands until it is dropped
-  pub stays : (vs : List Visit) → Spared event vs → stands event (onward s vs) ≡ true
+  pub stays : (vs : List Visit) → Spared event vs → stands event (afterVisits s vs) ≡ true
   -- "while signalled, the line is up"
-  pub up : (vs : List Visit) → Spared event vs → signalled event (onward s vs) ≡ true → lineNow (onward s vs) ≡ true
+  pub up : (vs : List Visit) → Spared event vs → signalled event (afterVisits s vs) ≡ true → lineNow (afterVisits s vs) ≡ true
   -- "if signalled, holds the line up until that bit is cleared, reset or loses an enable"
-  pub holds : (vs : List Visit) → Spared event vs → Unmuted event vs → signalled event s ≡ true → lineNow (onward s vs) ≡ true
+  pub holds : (vs : List Visit) → Spared event vs → Unmuted event vs → signalled event s ≡ true → lineNow (afterVisits s vs) ≡ true
 
 -- ---- the end of a transfer
 
@@ -139,7 +140,7 @@ pub record Held (event : Event) (s : Slot) : Type 0 where
 abbrev pub endEvent : Kind → Event
 endEvent well = TransferComplete
 endEvent (fault state) = AdmaError
-endEvent limit = AdmaError
+endEvent limit = AdmaError  -- `reaches` of `Granted` rules this out
 
 -- what a step of a run does, while the transfer runs, to the two bits that an ending raises
 pub record Told (w : World) (lines : ℕ) (es : List Step) (e : Step) : Type 0 where
@@ -147,6 +148,9 @@ pub record Told (w : World) (lines : ℕ) (es : List Step) (e : Step) : Type 0 w
   pub raises : running (stepOf (reached w es) e .world) ≡ false
       → enabled (endEvent (traceAt w lines .kind)) (reached w es .slot) ≡ true
       → Held (endEvent (traceAt w lines .kind)) (stepOf (reached w es) e .world .slot)
+  -- and no other: a bit of the other ending that then stands stood before
+  pub alone : (kind : Kind) → running (stepOf (reached w es) e .world) ≡ false → endEvent kind ≢ endEvent (traceAt w lines .kind)
+      → stands (endEvent kind) (stepOf (reached w es) e .world .slot) ≡ true → stands (endEvent kind) (reached w es .slot) ≡ true
   -- and nothing raises it sooner
   pub sooner : (kind : Kind) → running (stepOf (reached w es) e .world) ≡ true
       → stands (endEvent kind) (stepOf (reached w es) e .world .slot) ≡ true → stands (endEvent kind) (reached w es .slot) ≡ true
@@ -156,7 +160,7 @@ abbrev pub acknowledging : Event → World → Slot
 acknowledging one w = stepOf w (write 0x030 4 (eventSet one)) .world .slot
 
 -- "acknowledging one leaves the other and the line"
-pub record Beside (one other : Event) (w : World) : Type 0 where
+pub record KeepsOther (one other : Event) (w : World) : Type 0 where
   pub cleared : stands one (acknowledging one w) ≡ false
   pub leaves : stands other (acknowledging one w) ≡ true
   pub line : signalled other (w .slot) ≡ true → lineNow (acknowledging one w) ≡ true

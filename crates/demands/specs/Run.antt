@@ -5,10 +5,10 @@ use Prim.Native.Nat.{ℕ}
 use mathlib.Core.List.{List, [], _∷_, _++_}
 use mathlib.Core.Bool.{Bool, cond}
 use lib.ListN.{take}
-use Rattle.terms.specs.Answers.{valueOf}
+use Rattle.terms.specs.Answers.{valueOf, isDone}
 use Rattle.terms.specs.declared.Answer.{Answer}
 use Rattle.engine.specs.Transfer.{runsOf}
-use Rattle.engine.specs.Run.{accepts, tally}
+use Rattle.engine.specs.Run.{tally}
 use Rattle.controller.specs.Steps.{Step, read, write, card-in, card-out, response, block-given, block-taken, busy-over, data-error, level, turn, World, Result, stepOf}
 
 -- a step that was made, and what it gave
@@ -53,8 +53,8 @@ passing (write offset width value) r = []
 passing card-in r = []
 passing card-out r = []
 passing (response result words) r = []
-passing (block-given block) r = cond (accepts (r .answer)) block []
-passing (block-taken room) r = cond (accepts (r .answer)) (take (valueOf (r .answer)) (r .room)) []
+passing (block-given block) r = cond (isDone (r .answer)) block []
+passing (block-taken room) r = cond (isDone (r .answer)) (take (valueOf (r .answer)) (r .room)) []
 passing busy-over r = []
 passing (data-error number) r = []
 passing (level up) r = []

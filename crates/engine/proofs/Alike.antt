@@ -8,12 +8,10 @@ use mathlib.Core.Bool.{Bool, true, false}
 use lib.ListN.{length, take, drop}
 use lib.Seq.{paste, length-paste}
 use Rattle.terms.specs.Counts.{less}
-use Rattle.terms.specs.declared.ByteCount.{ByteCount}
 use Rattle.table.specs.Line.{lineSize}
 use Rattle.table.specs.Fetch.{fetchOf}
 use Rattle.table.specs.Trace.{Area, Trace, addLine, addArea, addRing, onward, along, traceOf}
-use Rattle.table.specs.declared.fetch.Fetched.{Fetched}
-use Rattle.table.specs.declared.fetch.Fetched.the-variants.{Fault, Step, Data}
+use Rattle.engine.proofs.Names.{ByteCount, Fetched, Fault, Step, Data}
 use Rattle.engine.specs.Demand.{Off, Clear}
 use Rattle.engine.proofs.Coming.{area}
 use Rattle.engine.proofs.Pasted.{paste-apart}

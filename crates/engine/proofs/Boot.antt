@@ -7,16 +7,14 @@ use mathlib.Core.List.{List, _++_}
 use mathlib.Core.Bool.{Bool, true, false}
 use lib.ListN.{length}
 use Rattle.terms.specs.Counts.{times}
-use Rattle.terms.specs.declared.BlockCount.{BlockCount}
 use Rattle.table.specs.Line.{aligned}
 use Rattle.table.specs.Trace.{Kind, well, limit, traceOf}
 use Rattle.table.specs.Survey.{defaultLimit, bootOf}
 use Rattle.table.proofs.Exactly.{boot-yes}
 use Rattle.engine.specs.Transfer.{issued, runsOf}
 use Rattle.engine.specs.Run.{Event, World, run, start}
-use Rattle.engine.specs.Demand.{Sure, Premise, endOf, Delivered}
-use Rattle.engine.specs.declared.transfer.Way.{Way}
-use Rattle.engine.specs.declared.transfer.Outcome.the-variants.{Completes}
+use Rattle.engine.specs.Demand.{Uncovered, Premise, endOf, Delivered}
+use Rattle.engine.proofs.Names.{BlockCount, Way, Completes}
 use Rattle.engine.proofs.Demand3.{demand-3}
 use Rattle.engine.proofs.Drive.{demand-3-ends}
 use Rattle.engine.proofs.Ends.{end-well, completed}
@@ -37,13 +35,13 @@ module _ (way : Way) (counted : Bool) (size : ℕ) (blocks : BlockCount) (at : �
       let b = boot-yes mem at (times blocks size) in
       ((λ y. d .outcome g ∙ ap endOf (b .0 y .1)), (λ e. b .1 (h .permitted, end-well _ (sym (d .outcome g) ∙ e))))
 
-  module _ (positive : 0 < size) (small : size ≤ length buffer) (sure : Sure way (traceOf mem defaultLimit (aligned at) (times blocks size)))
+  module _ (positive : 0 < size) (small : size ≤ length buffer) (clear : Uncovered way (traceOf mem defaultLimit (aligned at) (times blocks size)))
       (yes : bootOf mem at (times blocks size) .yes ≡ true) where
     -- a yes is all that demand 3 asks of memory and table
     pub boot-premise : Premise way size blocks (aligned at) buffer mem defaultLimit
     boot-premise =
         let b = boot-yes mem at (times blocks size) .0 yes in
-        record { positive = positive; small = small; permitted = b .0; reaches = well-limit _ (b .1); sure = sure }
+        record { positive = positive; small = small; permitted = b .0; reaches = well-limit _ (b .1); clear = clear }
 
     -- every run that has ended has completed
     pub boot-completes : (es : List Event) → runsOf (after es .dat) ≡ false → after es .told ≡ Completes

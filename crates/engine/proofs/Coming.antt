@@ -7,12 +7,9 @@ use mathlib.Core.List.{List, _∷_}
 use mathlib.Core.Bool.{Bool, true, false}
 use Rattle.terms.specs.Counts.{bytes}
 use Rattle.table.specs.Trace.{Area, well, fault, Trace, ends, addArea, ringOf, addRing, onward, along, traceOf}
-use Rattle.table.specs.declared.fetch.Fetched.{Fetched}
-use Rattle.table.specs.declared.fetch.Fetched.the-variants.{Fault, Step, Data}
 use Rattle.engine.specs.Transfer.{ending, settled}
 use Rattle.engine.specs.Turn.{seenTable, seenInt, seen, further, doneRest}
-use Rattle.engine.specs.declared.transfer.Next.{Next}
-use Rattle.engine.specs.declared.transfer.Next.the-variants.{Fetch, Move, Stop, Finish, Fail}
+use Rattle.engine.proofs.Names.{Fetched, Fault, Step, Data, Next, Fetch, Move, Stop, Finish, Fail}
 
 -- so many bytes from an address on
 abbrev pub area : ℕ → ℕ → Area
@@ -43,25 +40,21 @@ coming n mem table owed Stop = ends well table
 coming n mem table owed Finish = ends well table
 coming n mem table owed (Fail state) = ends (fault state) table
 
-module _ (n : ℕ) (mem : List ℕ) (left held : ℕ) where
-  -- the engine has stopped well
-  pub ending-comes : (table owed : ℕ) → coming n mem table owed (ending left held) ≡ ends well table
-  unfolding coming ending
-  ending-comes table owed = go left held
-    where
-      go : (left held : ℕ) → coming n mem table owed (ending left held) ≡ ends well table
-      go zero zero = refl
-      go zero (suc held) = refl
-      go (suc left) held = refl
+-- the engine has stopped well
+pub ending-comes : (n : ℕ) (mem : List ℕ) (left held table owed : ℕ) → coming n mem table owed (ending left held) ≡ ends well table
+unfolding coming ending
+ending-comes n mem zero zero table owed = refl
+ending-comes n mem zero (suc held) table owed = refl
+ending-comes n mem (suc left) held table owed = refl
 
+module _ (n : ℕ) (mem : List ℕ) (left held : ℕ) where
   -- a line is done
   settled-comes : (last : Bool) (table owed : ℕ)
       → coming n mem table owed (settled last owed left held) ≡ onward (traceOf mem n) last table (bytes owed)
   unfolding coming settled onward
-  settled-comes true table zero = ending-comes table 0
+  settled-comes true table zero = ending-comes n mem left held table 0
   settled-comes true table (suc owed) = refl
-  settled-comes false table zero = refl
-  settled-comes false table (suc owed) = refl
+  settled-comes false table owed = refl
 
   -- after a fetch
   pub seen-comes : (owed : ℕ) (f : Fetched)
@@ -102,8 +95,7 @@ module _ (n : ℕ) where
   unfolding weight settled
   settled-weight true zero left held = omega (arith, ending-weight left held)
   settled-weight true (suc owed) left held = omega arith
-  settled-weight false zero left held = omega arith
-  settled-weight false (suc owed) left held = omega arith
+  settled-weight false owed left held = omega arith
 
   -- a fetch leaves at most its line in hand
   pub seen-weight : (f : Fetched) (owed left held : ℕ) → weight n (seen f owed left held) ≤ suc (2 * n)

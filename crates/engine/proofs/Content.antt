@@ -7,8 +7,7 @@ use lib.ListN.{length, take, drop, length-append, length-drop}
 use lib.Seq.{paste, length-paste, take-paste, take-take, take-all, take-at, drop-at, length-take-le}
 use Rattle.terms.specs.Counts.{bytes}
 use Rattle.engine.specs.Buffer.{blockOf, heldOf}
-use Rattle.engine.specs.declared.transfer.Way.{Way}
-use Rattle.engine.specs.declared.transfer.Way.the-variants.{Read, Write}
+use Rattle.engine.proofs.Names.{Way, Read, Write}
 use Rattle.engine.proofs.Pasted.{part-add}
 
 -- a write fills a block from the front, a read empties it to the back

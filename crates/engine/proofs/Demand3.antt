@@ -6,24 +6,17 @@ use mathlib.Core.List.{List, [], _++_, append-nil}
 use mathlib.Core.Bool.{Bool, true, false, true≢false, false≢true}
 use lib.ListN.{length}
 use Rattle.terms.specs.Counts.{times}
-use Rattle.terms.specs.declared.BlockCount.{BlockCount}
 use Rattle.table.specs.Memory.{memoryLimit}
 use Rattle.table.specs.Trace.{Area, traceOf, namedBytes, fill}
 use Rattle.engine.specs.Transfer.{issued, outcomeOf, runsOf}
 use Rattle.engine.specs.Run.{Event, World, run, start}
-use Rattle.engine.specs.Demand.{Sure, Premise, Open, endOf, endsAs, Carried, Kept, Demand}
-use Rattle.engine.specs.declared.transfer.Way.{Way}
-use Rattle.engine.specs.declared.transfer.Way.the-variants.{Read, Write}
-use Rattle.engine.specs.declared.transfer.Stage.the-variants.{Fetching, Moving, Stopped}
-use Rattle.engine.specs.declared.transfer.Dat.the-variants.{Free}
-use Rattle.engine.specs.declared.transfer.Next.{Next}
-use Rattle.engine.specs.declared.transfer.Next.the-variants.{Fetch, Move, Stop, Finish, Fail}
-use Rattle.engine.specs.declared.transfer.Outcome.the-variants.{Completes}
+use Rattle.engine.specs.Demand.{Uncovered, Premise, Open, endOf, endsAs, Carried, Kept, Demand}
+use Rattle.engine.proofs.Names.{BlockCount, Way, Read, Write, Fetching, Moving, Stopped, Free, Next, Fetch, Move, Stop, Finish, Fail, Completes}
 use Rattle.engine.proofs.Coming.{coming, weight}
 use Rattle.engine.proofs.Invariant.{Goal, Now, Count, Shape, Side, one, one-most, comes, Inv}
 use Rattle.engine.proofs.Content.{none-shown}
 use Rattle.engine.proofs.Worlds.{world}
-use Rattle.engine.proofs.Reached.{Stands, Reached}
+use Rattle.engine.proofs.Reached.{Stands, Reached, reach}
 use Rattle.engine.proofs.Steps.{run-leads}
 use Rattle.engine.proofs.Progress.{progress, bounded}
 
@@ -54,26 +47,24 @@ module _ (counted : Bool) (G : Goal) (n : ℕ) (s : Now) (x : List ℕ) where
       ap (λ (l : List Area). fill (s .cargo .memory) l (s .cargo .held ++ [])) (sym e) ∙ i .side .carried []
       ∙ ap (fill (G .memory) (G .trace .named)) (append-nil (s .cargo .passed))
 
-  -- a transfer that has ended
+  -- a transfer that has ended, with nothing to come
+  over : (way : Way) (st : Next) → Stands way G n s x st → shows way st .told ≡ endOf (comes n s st .kind)
+      → shows way st .dat ≡ endsAs way (comes n s st .kind) → comes n s st .named ≡ [] → comes n s st .rings ≡ 0 → Ended way G (shows way st)
+  over way st h o d none z =
+      record {
+        outcome = o ∙ ap endOf (h .inv .kind);
+        stands = d ∙ ap (endsAs way) (h .inv .kind);
+        carried = end-carried way st none (h .inv);
+        rung = omega (arith, h .inv .rung);
+      }
+
   ended : (way : Way) (st : Next) → Stands way G n s x st → runsOf (shows way st .dat) ≡ false → Ended way G (shows way st)
   unfolding coming
   ended way Fetch h e = absurd (true≢false e)
   ended way (Move rest at last int) h e = absurd (true≢false e)
   ended way Stop h e = absurd (true≢false e)
-  ended way Finish h e =
-      record {
-        outcome = ap endOf (h .inv .kind);
-        stands = ap (endsAs way) (h .inv .kind);
-        carried = end-carried way Finish refl (h .inv);
-        rung = omega (arith, h .inv .rung);
-      }
-  ended way (Fail state) h e =
-      record {
-        outcome = ap endOf (h .inv .kind);
-        stands = ap (endsAs way) (h .inv .kind);
-        carried = end-carried way (Fail state) refl (h .inv);
-        rung = omega (arith, h .inv .rung);
-      }
+  ended way Finish h e = over way Finish h refl refl refl refl
+  ended way (Fail state) h e = over way (Fail state) h refl refl refl refl
 
   -- "nothing else touched"
   kept : (way : Way) (st : Next) → Inv way G n s st → Kept way (G .memory) (G .trace .named) (s .cargo .memory)
@@ -126,8 +117,8 @@ module _ (way : Way) (counted : Bool) (size : ℕ) (blocks : BlockCount) (table 
   start-count Write = omega arith
   start-count Read = omega arith
 
-  start-side : (way : Way) → Sure way (G .trace) → Side way G (first .cargo) (G .trace .lines) (G .trace .named) (0 + 2 * lines)
-  start-side Write sure = record { paid = omega arith; spare = λ e. omega arith; same = refl; carried = refl }
+  start-side : (way : Way) → Uncovered way (G .trace) → Side way G (first .cargo) (G .trace .lines) (G .trace .named) (0 + 2 * lines)
+  start-side Write clear = record { paid = omega arith; spare = λ e. omega arith; same = refl; carried = refl }
   start-side Read sure =
       record {
         paid = omega arith;
@@ -149,20 +140,12 @@ module _ (way : Way) (counted : Bool) (size : ℕ) (blocks : BlockCount) (table 
         rung = omega arith;
         count = start-count way;
         shape = tt;
-        side = start-side way (h .sure);
+        side = start-side way (h .clear);
       }
 
   -- the invariant holds where a run begins
   pub starts : Reached way counted G (start (issued way counted size blocks) table buffer mem)
-  starts =
-      record {
-        ahead = lines;
-        now = first;
-        buffer = buffer;
-        phase = Fetch;
-        is = refl;
-        stands = record { shown = none-shown way size buffer (h .small); inv = start-inv };
-      }
+  starts = reach way counted G lines first buffer Fetch (record { shown = none-shown way size buffer (h .small); inv = start-inv }) refl
 
   -- ---- demand 3
 

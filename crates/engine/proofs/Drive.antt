@@ -8,14 +8,12 @@ use lib.ListN.{replicate, length-replicate}
 use lib.Seq.{append-snoc}
 use borrow.Author.Tests.{eq-eqb}
 use Rattle.terms.specs.Answers.{numberOf}
-use Rattle.terms.specs.declared.Answer.{Answer}
-use Rattle.terms.specs.declared.BlockCount.{BlockCount}
 use Rattle.engine.specs.Transfer.{issued, runsOf}
 use Rattle.engine.specs.Turn.{turnOf}
 use Rattle.engine.specs.Block.{givenOf, takenOf}
 use Rattle.engine.specs.Run.{Event, reply, go, given, taken, World, tally, afterReply, next, run, start}
 use Rattle.engine.specs.Demand.{Premise, Open, by-turn, by-reply, by-given, by-taken, Demand}
-use Rattle.engine.specs.declared.transfer.Way.{Way}
+use Rattle.engine.proofs.Names.{BlockCount, Answer, Way}
 use Rattle.engine.proofs.Demand3.{demand-3}
 
 counts : (a : Answer) (n : ℕ) → numberOf a ≡ 0 → tally a n ≡ suc n

@@ -8,17 +8,13 @@ use mathlib.Core.Bool.{Bool, false}
 use lib.ListN.{length, take, drop, length-append, length-drop}
 use lib.Seq.{paste, length-paste, take-add, take-all, length-take-le}
 use Rattle.terms.specs.Counts.{times}
-use Rattle.terms.specs.declared.BlockCount.{BlockCount}
-use Rattle.terms.specs.declared.ByteCount.{ByteCount}
 use Rattle.table.specs.Trace.{Area, Kind, well, fault, limit, Trace, traceOf, total, namedBytes, fill}
 use Rattle.table.specs.Sound.{Inside, Sound}
 use Rattle.table.proofs.Sound.{well-sound, well-exactly}
 use Rattle.engine.specs.Transfer.{issued, runsOf}
 use Rattle.engine.specs.Run.{Event, World, run, start}
 use Rattle.engine.specs.Demand.{Beside, Separate, Premise, endOf, Carried, Demand, Delivered}
-use Rattle.engine.specs.declared.transfer.Way.{Way}
-use Rattle.engine.specs.declared.transfer.Way.the-variants.{Read, Write}
-use Rattle.engine.specs.declared.transfer.Outcome.the-variants.{Completes, Fails}
+use Rattle.engine.proofs.Names.{BlockCount, ByteCount, Way, Read, Write, Completes, Fails}
 use Rattle.engine.proofs.Pasted.{paste-there, paste-apart}
 use Rattle.engine.proofs.Demand3.{demand-3}
 

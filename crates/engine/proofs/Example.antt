@@ -1,12 +1,12 @@
 -- The paper's table by computation: a write, a read with refused steps, an error; demand 3's premises hold of each. Assumes nothing.
-use Prim.Native.Nat.{ℕ, _<_}
+use Prim.Native.Nat.{ℕ, _≤_, _<_}
 use native.Mathlib.Omega.{arith}
 use mathlib.Core.Path.{_≡_, refl, ap}
 use mathlib.Core.Logic.{_≢_, inl}
 use mathlib.Core.List.{List, [], _∷_, _++_}
 use mathlib.Core.Bool.{true, false}
 use lib.ListN.{replicate, length-replicate}
-use Rattle.terms.specs.Counts.{bytes, blocks}
+use Rattle.terms.specs.Counts.{times, bytes, blocks}
 use Rattle.table.specs.Line.{byteOf, lengthOf, addressOf, flagsOf}
 use Rattle.table.specs.Fetch.{fetchOf}
 use Rattle.table.specs.Trace.{Kind, limit, ringOf, onward, along, traceOf}
@@ -16,10 +16,8 @@ use Rattle.engine.specs.Transfer.{ending, settled, issued}
 use Rattle.engine.specs.Turn.{seen, further, doneRest, movingOf, runningOf, stagedOf}
 use Rattle.engine.specs.Block.{mayGive, giveOf, mayTake, takeOf}
 use Rattle.engine.specs.Run.{reply, go, given, taken, next, run, start}
-use Rattle.engine.specs.Demand.{Premise}
-use Rattle.engine.specs.declared.transfer.Way.the-variants.{Read, Write}
-use Rattle.engine.specs.declared.transfer.Dat.the-variants.{Free, Halted}
-use Rattle.engine.specs.declared.transfer.Outcome.the-variants.{Completes, Fails}
+use Rattle.engine.specs.Demand.{Uncovered, Premise}
+use Rattle.engine.proofs.Names.{BlockCount, Way, Read, Write, Free, Halted, Completes, Fails}
 
 -- 512 bytes, lent for the buffer or for a block taken
 abbrev zeros : List ℕ
@@ -29,6 +27,12 @@ zeros = replicate 512 0
 abbrev eight : List ℕ
 eight = 0x11 ∷ 0x22 ∷ 0x33 ∷ 0x44 ∷ 0x55 ∷ 0x66 ∷ 0x77 ∷ 0x88 ∷ []
 
+-- what is asked of the paper's memory, whatever its table's first byte, and of one line
+premise : (way : Way) (size : ℕ) (n : BlockCount) (first : ℕ) → 0 < size → size ≤ 512 → traceOf (memory first 0x10) 1 0 (times n size) .kind ≢ limit
+    → Uncovered way (traceOf (memory first 0x10) 1 0 (times n size)) → Premise way size n 0 zeros (memory first 0x10) 1
+premise way size n first positive small reaches sure =
+    record { positive = positive; small = omega (arith, length-replicate {A = ℕ} 512 0); permitted = omega arith; reaches = reaches; clear = sure }
+
 not-limit : (k : Kind) (n : ℕ) → kindOf k ≡ n → n < 2 → k ≢ limit
 not-limit k n e h f = omega (arith, ap kindOf f)
 
@@ -37,14 +41,7 @@ not-limit k n e h f = omega (arith, ap kindOf f)
 -- one block of eight, one line
 pub write-premise : Premise Write 8 (blocks 1) 0 zeros (memory 0x23 0x10) 1
 unfolding traceOf along onward fetchOf byteOf lengthOf addressOf flagsOf
-write-premise =
-    record {
-      positive = omega arith;
-      small = omega (arith, length-replicate {A = ℕ} 512 0);
-      permitted = omega arith;
-      reaches = not-limit (traceOf (memory 0x23 0x10) 1 0 (bytes 8) .kind) 0 refl (omega arith);
-      sure = tt;
-    }
+write-premise = premise Write 8 (blocks 1) 0x23 (omega arith) (omega arith) (not-limit _ 0 refl (omega arith)) tt
 
 -- "10 0 ... 11 0 ... 12 0 00000008 ... 13 0 00000008": it completes, and the block taken is the eight bytes
 pub paper-write : run (start (issued Write false 8 (blocks 1)) 0 zeros (memory 0x23 0x10)) (reply ∷ go ∷ go ∷ taken zeros ∷ [])
@@ -72,14 +69,7 @@ paper-boot = refl
 -- the line's eight bytes at 0 lie apart from its data at 10h
 pub read-premise : Premise Read 4 (blocks 2) 0 zeros (memory 0x27 0x10) 1
 unfolding traceOf along onward fetchOf byteOf lengthOf addressOf flagsOf
-read-premise =
-    record {
-      positive = omega arith;
-      small = omega (arith, length-replicate {A = ℕ} 512 0);
-      permitted = omega arith;
-      reaches = not-limit (traceOf (memory 0x27 0x10) 1 0 (bytes 8) .kind) 0 refl (omega arith);
-      sure = ((inl (omega arith), tt), tt);
-    }
+read-premise = premise Read 4 (blocks 2) 0x27 (omega arith) (omega arith) (not-limit _ 0 refl (omega arith)) ((inl (omega arith), tt), tt)
 
 -- refused and without effect: a turn before the response, a move and a taken block with the buffer empty, a block while it is full, a block too
 -- short, and all that follows the end
@@ -118,14 +108,7 @@ read-run = refl
 -- the table reaches its fault within one line
 pub fault-premise : Premise Write 8 (blocks 1) 0 zeros (memory 0x22 0x10) 1
 unfolding traceOf along onward fetchOf byteOf lengthOf addressOf flagsOf
-fault-premise =
-    record {
-      positive = omega arith;
-      small = omega (arith, length-replicate {A = ℕ} 512 0);
-      permitted = omega arith;
-      reaches = not-limit (traceOf (memory 0x22 0x10) 1 0 (bytes 8) .kind) 1 refl (omega arith);
-      sure = tt;
-    }
+fault-premise = premise Write 8 (blocks 1) 0x22 (omega arith) (omega arith) (not-limit _ 1 refl (omega arith)) tt
 
 -- it halts in state 01, 058h stays, nothing moves, and no turn is accepted any more
 pub fault-run : run (start (issued Write false 8 (blocks 1)) 0 zeros (memory 0x22 0x10)) (reply ∷ go ∷ go ∷ [])

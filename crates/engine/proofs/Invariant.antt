@@ -8,10 +8,7 @@ use lib.ListN.{length, getD}
 use Rattle.table.specs.Trace.{Area, Trace, namedBytes, fill}
 use Rattle.engine.specs.Transfer.{ending, settled}
 use Rattle.engine.specs.Demand.{Clear, Outside}
-use Rattle.engine.specs.declared.transfer.Way.{Way}
-use Rattle.engine.specs.declared.transfer.Way.the-variants.{Read, Write}
-use Rattle.engine.specs.declared.transfer.Next.{Next}
-use Rattle.engine.specs.declared.transfer.Next.the-variants.{Fetch, Move, Stop, Finish, Fail}
+use Rattle.engine.proofs.Names.{Way, Read, Write, Next, Fetch, Move, Stop, Finish, Fail}
 use Rattle.engine.proofs.Coming.{coming, weight}
 
 -- what a transfer was issued with: the block size, the blocks, the lines that its table is followed for, memory, and the table's trace
@@ -132,5 +129,4 @@ module _ (size : ℕ) (positive : 0 < size) (room : ℕ) where
   unfolding Shape settled
   settled-shape true way left zero held fits e = ending-shape way left 0 held refl fits e
   settled-shape true way left (suc owed) held fits e = tt
-  settled-shape false way left zero held fits e = tt
-  settled-shape false way left (suc owed) held fits e = tt
+  settled-shape false way left owed held fits e = tt

@@ -1,5 +1,5 @@
 -- What the proofs of several functions use, and the theorems over the definitions.
-pub mod Clauses
+pub mod Names
 pub mod Lent
 pub mod Exactly
 pub mod Refused

@@ -8,12 +8,7 @@ use lib.ListN.{length, length-append}
 use Rattle.terms.specs.Counts.{blocks}
 use Rattle.table.specs.Trace.{Trace, namedBytes}
 use Rattle.engine.specs.Block.{emptiedOf}
-use Rattle.engine.specs.declared.transfer.Way.{Way}
-use Rattle.engine.specs.declared.transfer.Way.the-variants.{Read, Write}
-use Rattle.engine.specs.declared.transfer.Stage.{Stage}
-use Rattle.engine.specs.declared.transfer.Stage.the-variants.{Fetching, Moving, Stopped}
-use Rattle.engine.specs.declared.transfer.Next.{Next}
-use Rattle.engine.specs.declared.transfer.Next.the-variants.{Fetch, Move, Stop}
+use Rattle.engine.proofs.Names.{Way, Read, Write, Stage, Fetching, Moving, Stopped, Next, Fetch, Move, Stop}
 use Rattle.engine.proofs.Coming.{coming, ending-comes, weight, ending-weight}
 use Rattle.engine.proofs.Invariant.{Goal, Cargo, Now, Shape, one, Inv, ending-shape}
 

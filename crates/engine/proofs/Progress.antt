@@ -3,37 +3,23 @@ use Prim.Native.Nat.{ℕ, zero, suc, _+_, _*_, _≤_, _<_}
 use native.Mathlib.Omega.{arith}
 use mathlib.Core.Path.{_≡_, refl, sym, ap, _∙_}
 use mathlib.Core.List.{List}
-use mathlib.Core.Bool.{Bool, true, false, not, _&&_}
+use mathlib.Core.Bool.{Bool, true, false, not}
 use lib.ListN.{length}
-use borrow.Author.Tests.{lt-ltb, le-ltb, eq-eqb}
+use borrow.Author.Tests.{le-ltb, eq-eqb}
 use Rattle.terms.specs.Answers.{numberOf}
 use Rattle.terms.specs.Counts.{bytes}
-use Rattle.terms.specs.declared.ByteCount.{ByteCount}
 use Rattle.table.specs.Memory.{memoryLimit}
 use Rattle.engine.specs.Buffer.{readyOf}
 use Rattle.engine.specs.Turn.{runningOf, stagedOf}
-use Rattle.engine.specs.Block.{mayGive, mayTake}
 use Rattle.engine.specs.Demand.{Open, by-turn, by-reply, by-given, by-taken}
-use Rattle.engine.specs.declared.transfer.Way.{Way}
-use Rattle.engine.specs.declared.transfer.Way.the-variants.{Read, Write}
-use Rattle.engine.specs.declared.transfer.Stage.{Stage}
-use Rattle.engine.specs.declared.transfer.Stage.the-variants.{Fetching, Moving, Stopped}
-use Rattle.engine.specs.declared.transfer.Transfer.{Transfer}
-use Rattle.engine.specs.declared.transfer.Dat.the-variants.{Runs}
-use Rattle.engine.specs.declared.transfer.Next.{Next}
-use Rattle.engine.specs.declared.turn.Turned.{Turned}
-use Rattle.engine.specs.declared.block.Passed.{Passed}
+use Rattle.engine.proofs.Names.{ByteCount, Way, Read, Write, Stage, Fetching, Moving, Stopped, Transfer, Runs, Next, Turned, Passed}
+use Rattle.engine.proofs.Exactly.{gives, gives-may, takes, takes-may}
 use Rattle.engine.proofs.Coming.{weight}
 use Rattle.engine.proofs.Invariant.{Goal, allowed, Cargo, Now, Shape, Inv}
 use Rattle.engine.proofs.Passes.{phaseOf}
 use Rattle.engine.proofs.Content.{block-is, held-is}
 use Rattle.engine.proofs.Worlds.{running, runs, turn-small, answered-is, moves-is, give-is, take-is}
 use Rattle.engine.proofs.Reached.{Stands}
-
--- both tests say yes
-both : (p q : Bool) → p ≡ true → q ≡ true → (p && q) ≡ true
-both true q e f = f
-both false q e f = e
 
 abbrev turnNumber : Turned × List ℕ × List ℕ → ℕ
 turnNumber r = numberOf (r .0 .answer)
@@ -50,23 +36,21 @@ module _ (counted : Bool) (G : Goal) (permitted : length (G .memory) ≤ memoryL
   -- a block is taken from a full buffer
   take-open : (stage : Stage) → Stands Write G n s x (phaseOf stage) → length (c .held) ≡ G .size
       → Open (G .size) (runs Write counted (G .size) s x stage)
-  unfolding mayTake
   take-open stage h full =
       by-taken (λ room lent.
       ap blockNumber
       (take-is (running Write counted (G .size) s stage) x room true false
-      (eq-eqb _ _ (held-is (G .size) (c .held) x (h .shown .room) (h .inv .within) ∙ full ∙ sym (block-is (G .size) x (h .shown .room))))
+      (takes-may (takes refl (held-is (G .size) (c .held) x (h .shown .room) (h .inv .within) ∙ full ∙ sym (block-is (G .size) x (h .shown .room)))))
       (le-ltb (length room) _ (omega arith))))
 
   -- a block is given to an empty one
   give-open : (stage : Stage) → Stands Read G n s x (phaseOf stage) → s .answered ≡ true → length (c .held) ≡ 0 → 0 < c .left
       → Open (G .size) (runs Read counted (G .size) s x stage)
-  unfolding mayGive
   give-open stage h a empty left =
       by-given (λ block long.
       ap blockNumber
       (give-is (running Read counted (G .size) s stage) x block true true
-      (both (s .answered) _ a (both _ _ (eq-eqb _ 0 (held-is (G .size) (c .held) x (h .shown .room) (h .inv .within) ∙ empty)) (lt-ltb 0 (c .left) left)))
+      (gives-may (gives refl a (held-is (G .size) (c .held) x (h .shown .room) (h .inv .within) ∙ empty) left))
       (eq-eqb (length block) _ (long ∙ sym (block-is (G .size) x (h .shown .room))))))
 
   -- of the bytes owed by a read with an empty buffer, some block is left
@@ -90,7 +74,7 @@ module _ (counted : Bool) (G : Goal) (permitted : length (G .memory) ≤ memoryL
         by-turn
         (ap turnNumber
         (turn-small (Runs t) (s .table) x (c .memory) (omega (arith, h .inv .long))
-        ∙ answered-is t (s .table) x (c .memory) (s .answered) _ a
+        ∙ answered-is t (s .table) x (c .memory) (s .answered) true _ a
         ∙ moves-is t (s .table) x (c .memory) rest at last int (suc r) e (omega arith) (omega (arith, h .inv .shape .2))))
 
   stop-open : (way : Way) → Stands way G n s x (phaseOf Stopped) → Open (G .size) (runs way counted (G .size) s x Stopped)
@@ -107,7 +91,7 @@ module _ (counted : Bool) (G : Goal) (permitted : length (G .memory) ≤ memoryL
       let t : Transfer = running way counted (G .size) s Fetching in
       by-turn
       (ap turnNumber
-      (turn-small (Runs t) (s .table) x (c .memory) (omega (arith, h .inv .long)) ∙ answered-is t (s .table) x (c .memory) (s .answered) _ e))
+      (turn-small (Runs t) (s .table) x (c .memory) (omega (arith, h .inv .long)) ∙ answered-is t (s .table) x (c .memory) (s .answered) true _ e))
   progress way (Moving rest at last int) h true e =
       move-open rest at last int way h e (readyOf way (G .size) (length x) (bytes (length (c .held))) .0) refl
   progress way Stopped h true e = stop-open way h

@@ -11,25 +11,19 @@ use lib.Dec.{eqb, ltb}
 use borrow.Author.Tests.{eqb-true, ltb-true}
 use Rattle.terms.specs.Answers.{valueOf}
 use Rattle.terms.specs.Counts.{bytes, blocks}
-use Rattle.terms.specs.declared.Answer.the-variants.{OutOfTurn, WrongLength}
 use Rattle.table.specs.Memory.{memoryLimit}
 use Rattle.table.specs.Trace.{limit}
 use Rattle.engine.specs.Buffer.{blockOf, heldOf}
 use Rattle.engine.specs.Block.{mayGive, mayTake, emptiedOf}
 use Rattle.engine.specs.Run.{Event, reply, go, given, taken, World, afterReply, afterBlock, next, run}
-use Rattle.engine.specs.declared.transfer.Way.{Way}
-use Rattle.engine.specs.declared.transfer.Way.the-variants.{Read, Write}
-use Rattle.engine.specs.declared.transfer.Stage.{Stage}
-use Rattle.engine.specs.declared.transfer.Stage.the-variants.{Fetching, Moving, Stopped}
-use Rattle.engine.specs.declared.transfer.Transfer.{Transfer}
-use Rattle.engine.specs.declared.transfer.Next.{Next}
-use Rattle.engine.specs.declared.transfer.Next.the-variants.{Fetch, Move, Stop, Finish, Fail}
-use Rattle.engine.specs.declared.block.Passed.{Passed}
+use Rattle.engine.proofs.Names.{OutOfTurn, WrongLength, Way, Read, Write, Stage, Fetching, Moving, Stopped, Transfer, Next, Fetch, Move, Stop, Finish}
+use Rattle.engine.proofs.Names.{Fail, Passed}
+use Rattle.engine.proofs.Exactly.{both}
 use Rattle.engine.proofs.Invariant.{Goal, Cargo, Now}
 use Rattle.engine.proofs.Passes.{replied, reply-keeps, phaseOf, passes, give-keeps, take-keeps}
 use Rattle.engine.proofs.Content.{block-is, held-is, none-shown, take-shown, give-shown}
-use Rattle.engine.proofs.Worlds.{running, world, runs, runs-is, dat-counts, block-refused, give-is, take-is, and-true}
-use Rattle.engine.proofs.Reached.{Stands, Reached, stay, turn-leads}
+use Rattle.engine.proofs.Worlds.{running, world, runs, runs-is, dat-counts, block-refused, give-is, take-is}
+use Rattle.engine.proofs.Reached.{Stands, Reached, reach, turn-leads}
 
 -- a list of no length
 nothing : (l : List ℕ) → length l ≡ 0 → l ≡ []
@@ -51,21 +45,15 @@ module _ (counted : Bool) (G : Goal) (positive : 0 < G .size) (reaches : G .trac
 
     -- a step that is refused
     kept : {w : World} (way : Way) → Stands way G n s x (phaseOf stage) → w ≡ before way → Reached way counted G w
-    kept way h e = stay way counted G n s x (phaseOf stage) h (e ∙ runs-is way counted (G .size) s x stage)
+    kept way h e = reach way counted G n s x (phaseOf stage) h (e ∙ runs-is way counted (G .size) s x stage)
 
     -- the response
     reply-leads : (way : Way) → Stands way G n s x (phaseOf stage) → (a : Bool) → s .answered ≡ a → Reached way counted G (next (before way) reply)
     unfolding next
     reply-leads way h true e = kept way h (ap (λ (t : Bool). cond t (afterReply (before way)) (before way)) (ap not e))
     reply-leads way h false e =
-        record {
-          ahead = n;
-          now = replied s;
-          buffer = x;
-          phase = phaseOf stage;
-          is = ap (λ (t : Bool). cond t (afterReply (before way)) (before way)) (ap not e) ∙ runs-is way counted (G .size) (replied s) x stage;
-          stands = record { shown = h .shown; inv = reply-keeps way G n s (phaseOf stage) e (h .inv) };
-        }
+        reach way counted G n (replied s) x (phaseOf stage) (record { shown = h .shown; inv = reply-keeps way G n s (phaseOf stage) e (h .inv) })
+        (ap (λ (t : Bool). cond t (afterReply (before way)) (before way)) (ap not e) ∙ runs-is way counted (G .size) (replied s) x stage)
 
     -- ---- a block given
 
@@ -85,22 +73,17 @@ module _ (counted : Bool) (G : Goal) (positive : 0 < G .size) (reaches : G .trac
           let room : G .size ≤ length x = h .shown .room in
           let size : blockOf (G .size) (length x) .0 ≡ G .size = block-is (G .size) x room in
           let held : ℕ = heldOf (G .size) (length x) (bytes (length (c .held))) .0 in
-          let tests : (eqb held 0 ≡ true) × (ltb 0 (c .left) ≡ true) = and-true (eqb held 0) (ltb 0 (c .left)) (and-true (s .answered) _ e .1) in
+          let tests : (eqb held 0 ≡ true) × (ltb 0 (c .left) ≡ true) = both (eqb held 0) (ltb 0 (c .left)) (both (s .answered) _ e .1) in
           let empty : c .held ≡ [] = nothing (c .held) (sym (held-is (G .size) (c .held) x room (h .inv .within)) ∙ eqb-true held 0 (tests .0)) in
           let long : length block ≡ G .size = eqb-true (length block) _ f ∙ size in
-          record {
-            ahead = n;
-            now = passes s block block;
-            buffer = paste x 0 block (length block);
-            phase = phaseOf stage;
-            is = ap (gives Read) (give-is (transfer Read) x block true true e f)
-                ∙ rw (sym (eqb-true (length block) _ f)) (runs-is Read counted (G .size) (passes s block block) (paste x 0 block (length block)) stage);
-            stands =
-                record {
-                  shown = give-shown (G .size) block x long room;
-                  inv = give-keeps G positive n s stage block empty (ltb-true 0 (c .left) (tests .1)) long (h .inv);
-                };
-          }
+          let y : List ℕ = paste x 0 block (length block) in
+          reach Read counted G n (passes s block block) y (phaseOf stage)
+          (record {
+            shown = give-shown (G .size) block x long room;
+            inv = give-keeps G positive n s stage block empty (ltb-true 0 (c .left) (tests .1)) long (h .inv);
+          })
+          (ap (gives Read) (give-is (transfer Read) x block true true e f)
+          ∙ rw (sym (eqb-true (length block) _ f)) (runs-is Read counted (G .size) (passes s block block) y stage))
 
     -- ---- a block taken
 
@@ -120,15 +103,9 @@ module _ (counted : Bool) (G : Goal) (positive : 0 < G .size) (reaches : G .trac
           let lent : G .size ≤ length x = h .shown .room in
           let size : blockOf (G .size) (length x) .0 ≡ G .size = block-is (G .size) x lent in
           let full : length (c .held) ≡ G .size = sym (held-is (G .size) (c .held) x lent (h .inv .within)) ∙ eqb-true _ _ e ∙ size in
-          record {
-            ahead = n;
-            now = passes s (c .held) [];
-            buffer = x;
-            phase = emptiedOf stage (blocks (pred (c .left)));
-            is = ap (takes Write) (take-is (transfer Write) x room true false e f)
-                ∙ rw (size, take-shown (G .size) (c .held) x room full (h .shown), dat-counts);
-            stands = record { shown = none-shown Write (G .size) x lent; inv = take-keeps G positive n s stage full (h .inv) };
-          }
+          reach Write counted G n (passes s (c .held) []) x (emptiedOf stage (blocks (pred (c .left))))
+          (record { shown = none-shown Write (G .size) x lent; inv = take-keeps G positive n s stage full (h .inv) })
+          (ap (takes Write) (take-is (transfer Write) x room true false e f) ∙ rw (size, take-shown (G .size) (c .held) x room full (h .shown), dat-counts))
 
   -- ---- wherever the transfer is, and whatever the step
 
@@ -145,10 +122,10 @@ module _ (counted : Bool) (G : Goal) (positive : 0 < G .size) (reaches : G .trac
     ended-leads : (st : Next) (e : Event) → Stands way G n s x st → let w = world way counted (G .size) s x st in
         next w reply ≡ w → ((block : List ℕ) → next w (given block) ≡ w) → ((room : List ℕ) → next w (taken room) ≡ w)
         → Reached way counted G (next w e)
-    ended-leads st reply h r g t = stay way counted G n s x st h r
+    ended-leads st reply h r g t = reach way counted G n s x st h r
     ended-leads st go h r g t = turn-leads counted G positive reaches permitted n s x way st h
-    ended-leads st (given block) h r g t = stay way counted G n s x st h (g block)
-    ended-leads st (taken room) h r g t = stay way counted G n s x st h (t room)
+    ended-leads st (given block) h r g t = reach way counted G n s x st h (g block)
+    ended-leads st (taken room) h r g t = reach way counted G n s x st h (t room)
 
     -- either
     leads : (st : Next) (e : Event) → Stands way G n s x st → Reached way counted G (next (world way counted (G .size) s x st) e)

@@ -10,14 +10,9 @@ use lib.Seq.{paste, length-paste}
 use Rattle.terms.specs.Counts.{bytes}
 use Rattle.table.specs.Fetch.{fetchOf}
 use Rattle.table.specs.Trace.{Area, limit, Trace, addRing, ringOf, onward, along, traceOf}
-use Rattle.table.specs.declared.fetch.Fetched.{Fetched}
-use Rattle.table.specs.declared.fetch.Fetched.the-variants.{Fault, Step, Data}
 use Rattle.table.proofs.Laws.{Good, fetch-good}
 use Rattle.engine.specs.Turn.{seenTable, seenInt, seen, further, doneRest}
-use Rattle.engine.specs.declared.transfer.Way.{Way}
-use Rattle.engine.specs.declared.transfer.Way.the-variants.{Read, Write}
-use Rattle.engine.specs.declared.transfer.Next.{Next}
-use Rattle.engine.specs.declared.transfer.Next.the-variants.{Fetch, Move}
+use Rattle.engine.proofs.Names.{Fetched, Fault, Step, Data, Way, Read, Write, Next, Fetch, Move}
 use Rattle.engine.proofs.Coming.{leftOver, withOver, coming, seen-comes, further-comes, weight, seen-weight, further-weight}
 use Rattle.engine.proofs.Invariant.{Goal, Cargo, Now, Count, Shape, Side, Inv, settled-shape}
 use Rattle.engine.proofs.Moves.{movedCargo, loaded, loaded-length, load-side, unloaded, unload-side}
@@ -106,15 +101,20 @@ module _ (G : Goal) (positive : 0 < G .size) where
     abbrev onto : List ℕ → Next
     onto held = further rest (at + k) last int (s .cargo .owed - k) (s .cargo .left) (length held)
 
+    -- the turns spent once the line in hand and the rest of the table are followed
+    abbrev before : ℕ
+    before = s .turns + suc (2 * n)
+
     -- whichever way it goes
     moved-keeps : (way : Way) (held mem : List ℕ) → length held ≤ G .size → length mem ≡ length (s .cargo .memory)
         → Count way (G .size) (s .cargo .left) (s .cargo .owed - k) (length held) → beyond mem ≡ beyond (s .cargo .memory)
-        → Side way G (movedCargo (s .cargo) k held mem) (beyond (s .cargo .memory) .lines) (leftOver (at + k) rest (beyond (s .cargo .memory) .named))
-        (suc (s .turns) + weight n (onto held))
+        → ((after : ℕ) → after ≤ suc before → (rest ≡ 0 → after ≤ before)
+        → Side way G (movedCargo (s .cargo) k held mem) (beyond (s .cargo .memory) .lines) (leftOver (at + k) rest (beyond (s .cargo .memory) .named)) after)
         → Inv way G n s hand → Inv way G n (turned s (movedCargo (s .cargo) k held mem) (s .table) (doneRest rest int)) (onto held)
     unfolding coming weight Shape
     moved-keeps way held mem fits long count same side i =
         let c : Cargo = s .cargo in
+        let w = further-weight n rest (at + k) last int (c .owed - k) (c .left) (length held) in
         let d : c .owed - k - rest ≡ c .owed - (k + rest) = omega arith in
         let e : addRing (doneRest rest int) (coming n mem (s .table) (c .owed - k) (onto held)) ≡ withOver (at + k) rest (addRing int (beyond (c .memory))) =
         further-comes n mem (c .left) (length held) rest (at + k) last int (s .table) (c .owed - k)
@@ -130,7 +130,8 @@ module _ (G : Goal) (positive : 0 < G .size) where
           count = count;
           shape = further-shape way (c .left) (c .owed - k) (length held) (length mem) rest (at + k) last int fits count
               (omega (arith, i .shape .1)) (omega (arith, i .shape .2));
-          side = subst (λ (t : Trace). Side way G (movedCargo c k held mem) (t .lines) (t .named) (suc (s .turns) + weight n (onto held))) (sym e) side;
+          side = subst (λ (t : Trace). Side way G (movedCargo c k held mem) (t .lines) (t .named) (suc (s .turns) + weight n (onto held))) (sym e)
+              (side (suc (s .turns) + weight n (onto held)) (omega (arith, w .0)) (λ e. omega (arith, w .1 e)));
         }
 
     -- a write, into a buffer that has room
@@ -140,15 +141,10 @@ module _ (G : Goal) (positive : 0 < G .size) where
     unfolding coming weight Shape
     load-keeps room fits full i =
         let c : Cargo = s .cargo in
-        let w = further-weight n rest (at + k) last int (c .owed - k) (c .left) (length (loaded c at k .held)) in
-        let before : ℕ = s .turns + suc (2 * n) in
-        let after : ℕ = suc (s .turns) + weight n (onto (loaded c at k .held)) in
         let lies : at + (k + rest) ≤ length (c .memory) = i .shape .2 in
-        let most : after ≤ suc before = omega (arith, w .0) in
-        let done : rest ≡ 0 → after ≤ before = λ e. omega (arith, w .1 e) in
         let l = loaded-length c at k (omega arith) in
         moved-keeps Write (loaded c at k .held) (c .memory) (omega arith) refl (omega (arith, i .count, i .shape .1)) refl
-        (load-side G c at k rest (beyond (c .memory) .named) before after lies most done room full (i .side)) i
+        (λ after most done. load-side G c at k rest (beyond (c .memory) .named) before after lies most done room full (i .side)) i
 
     -- a read, out of a buffer that holds bytes
     pub unload-keeps : 0 < length (s .cargo .held) → k ≤ length (s .cargo .held) → (k < length (s .cargo .held) → rest ≡ 0)
@@ -157,14 +153,11 @@ module _ (G : Goal) (positive : 0 < G .size) where
     unfolding coming weight Shape
     unload-keeps holds enough empty i =
         let c : Cargo = s .cargo in
-        let w = further-weight n rest (at + k) last int (c .owed - k) (c .left) (length (drop k (c .held))) in
-        let before : ℕ = s .turns + suc (2 * n) in
-        let after : ℕ = suc (s .turns) + weight n (onto (drop k (c .held))) in
         let lies : at + (k + rest) ≤ length (c .memory) = i .shape .2 in
         let l = length-drop k (c .held) in
         moved-keeps Read (drop k (c .held)) (paste (c .memory) at (c .held) k) (omega (arith, i .within))
         (length-paste (c .memory) at (c .held) k (omega arith) enough) (omega (arith, i .count, i .shape .1))
         (paste-same at k rest (c .memory) (c .held) (omega arith) enough (beyond (c .memory) .named) n last (s .table) (bytes (c .owed - (k + rest))) (i .side .clear))
-        (unload-side G c at k rest (beyond (c .memory) .named) before after lies (omega (arith, w .0)) (λ e. omega (arith, w .1 e)) (beyond (c .memory) .lines)
-        holds enough empty (i .side))
+        (λ after most done.
+        unload-side G c at k rest (beyond (c .memory) .named) before after lies most done (beyond (c .memory) .lines) holds enough empty (i .side))
         i

@@ -4,33 +4,21 @@ use native.Mathlib.Nat.{zero-add}
 use native.Mathlib.Omega.{arith}
 use mathlib.Core.Path.{_≡_, refl}
 use mathlib.Core.List.{List}
-use mathlib.Core.Bool.{Bool, true, false, cond, _&&_, false≢true, true≢false}
+use mathlib.Core.Bool.{Bool, false, cond}
 use lib.ListN.{length}
 use lib.Dec.{eqb, ltb}
 use borrow.Author.Tests.{le-ltb, le-leb, eq-eqb, ne-eqb}
 use Rattle.terms.specs.Counts.{bytes, blocks}
-use Rattle.terms.specs.declared.Answer.{Answer}
-use Rattle.terms.specs.declared.Answer.the-variants.{NotYet, OutOfTurn, WrongLength}
-use Rattle.terms.specs.declared.BlockCount.{BlockCount}
-use Rattle.terms.specs.declared.ByteCount.{ByteCount}
 use Rattle.table.specs.Memory.{memoryLimit}
 use Rattle.table.specs.Trace.{ringOf}
 use Rattle.engine.specs.Transfer.{withCounts, datOf, outcomeOf}
 use Rattle.engine.specs.Buffer.{blockOf, readyOf}
 use Rattle.engine.specs.Turn.{refusedAs, answeredOf, carryOf, movedOf, movingOf, stagedOf, turnOf}
 use Rattle.engine.specs.Block.{keptAs, mayGive, gaveOf, giveOf, mayTake, tookOf, takeOf}
-use Rattle.engine.specs.Run.{World, accepts, toldOf, afterTurn, afterBlock}
-use Rattle.engine.specs.declared.transfer.Way.{Way}
-use Rattle.engine.specs.declared.transfer.Stage.{Stage}
-use Rattle.engine.specs.declared.transfer.Stage.the-variants.{Fetching, Moving, Stopped}
-use Rattle.engine.specs.declared.transfer.Transfer.{Transfer}
-use Rattle.engine.specs.declared.transfer.Dat.{Dat}
-use Rattle.engine.specs.declared.transfer.Dat.the-variants.{Runs}
-use Rattle.engine.specs.declared.transfer.Next.{Next}
-use Rattle.engine.specs.declared.transfer.Next.the-variants.{Fetch, Move, Stop, Finish, Fail}
-use Rattle.engine.specs.declared.transfer.Outcome.{Outcome}
-use Rattle.engine.specs.declared.transfer.Outcome.the-variants.{Goes, Completes, Fails}
-use Rattle.engine.specs.declared.turn.Turned.{Turned}
+use Rattle.terms.specs.Answers.{isDone}
+use Rattle.engine.specs.Run.{World, toldOf, afterTurn, afterBlock}
+use Rattle.engine.proofs.Names.{BlockCount, ByteCount, Answer, NotYet, OutOfTurn, WrongLength, Way, Stage, Fetching, Moving, Stopped, Transfer, Dat}
+use Rattle.engine.proofs.Names.{Runs, Next, Fetch, Move, Stop, Finish, Fail, Outcome, Goes, Completes, Fails, Turned}
 use Rattle.engine.proofs.Invariant.{Now}
 use Rattle.engine.proofs.Passes.{phaseOf}
 
@@ -96,11 +84,11 @@ told-goes Completes = refl
 told-goes (Fails state) = refl
 
 -- "All but 0 ... change nothing."
-pub turn-refused : (w : World) (a : Answer) → accepts a ≡ false → afterTurn w (refusedAs (w .dat) (w .table) a, w .buffer, w .memory) ≡ w
+pub turn-refused : (w : World) (a : Answer) → isDone a ≡ false → afterTurn w (refusedAs (w .dat) (w .table) a, w .buffer, w .memory) ≡ w
 unfolding ringOf
 turn-refused w a e = simp (e, told-goes, zero-add)
 
-pub block-refused : (w : World) (a : Answer) (block : List ℕ) → accepts a ≡ false → afterBlock w (keptAs (w .dat) a) (w .buffer) block ≡ w
+pub block-refused : (w : World) (a : Answer) (block : List ℕ) → isDone a ≡ false → afterBlock w (keptAs (w .dat) a) (w .buffer) block ≡ w
 block-refused w a block e = simp (e, told-goes)
 
 -- ---- the clauses of a turn and of the block events, by what the tests say
@@ -111,13 +99,8 @@ turn-small d table x mem h = simp (le-ltb memoryLimit (length mem) h)
 
 module _ (t : Transfer) (table : ℕ) (x mem : List ℕ) where
   -- its response is in, or 9: "its response awaited"
-  pub answered-is : (a : Bool) (done : Turned × List ℕ × List ℕ) → a ≡ true → answeredOf a t table x mem done ≡ done
-  answered-is true done e = refl
-  answered-is false done e = absurd (false≢true e)
-
-  pub awaited-is : (a : Bool) (done : Turned × List ℕ × List ℕ) → a ≡ false → answeredOf a t table x mem done ≡ (refusedAs (Runs t) table NotYet, x, mem)
-  awaited-is true done e = absurd (true≢false e)
-  awaited-is false done e = refl
+  pub answered-is : (a b : Bool) (done : Turned × List ℕ × List ℕ) → a ≡ b → answeredOf a t table x mem done ≡ answeredOf b t table x mem done
+  answered-is a b done e = rw e
 
   module _ (rest : ByteCount) (at : ℕ) (last int : Bool) (ready : ℕ) (is : readyOf (t .way) (t .size) (length x) (t .held) ≡ bytes ready) where
     -- 9: "a move due with the buffer full (write) or empty (read)"
@@ -143,8 +126,3 @@ module _ (t : Transfer) (x block : List ℕ) where
       → takeOf t x block ≡ cond may (cond short (keptAs (Runs t) WrongLength, block) (tookOf t x block)) (keptAs (Runs t) OutOfTurn, block)
   unfolding takeOf
   take-is may short e f = simp (e, f)
-
--- both tests say yes
-pub and-true : (p q : Bool) → (p && q) ≡ true → (p ≡ true) × (q ≡ true)
-and-true true q e = (refl, e)
-and-true false q e = absurd (false≢true e)

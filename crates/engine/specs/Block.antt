@@ -67,7 +67,8 @@ givenOf (Halted way) x block = (keptAs (Halted way) OutOfTurn, x)
 unfoldable pub mayTake : Transfer → ℕ → Bool
 mayTake t room = writesOf (t .way) && eqb (heldOf (t .size) room (t .held) .0) (blockOf (t .size) room .0)
 
--- where the transfer is once the buffer is empty: a stopped engine with no block left is complete
+-- where the transfer is once the buffer is empty: a stopped engine with no block left is complete. "nothing owed" is not asked again: only `settled`
+-- with nothing owed stops an engine
 abbrev pub emptiedOf : Stage → BlockCount → Next
 emptiedOf Fetching left = Fetch
 emptiedOf (Moving rest at last int) left = Move rest at last int

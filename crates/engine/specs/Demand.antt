@@ -55,18 +55,20 @@ Separate (a ∷ r) = Beside a r × Separate r
 -- ---- what is asked of a command, its table and the lent memory
 
 -- "on a read no named data covers a followed line"
-abbrev pub Sure : Way → Trace → Type 0
-Sure Write s = Unit
-Sure Read s = Clear (s .lines) (s .named)
+abbrev pub Uncovered : Way → Trace → Type 0
+Uncovered Write s = Unit
+Uncovered Read s = Clear (s .lines) (s .named)
 
 pub record Premise (way : Way) (size : ℕ) (blocks : BlockCount) (table : ℕ) (buffer mem : List ℕ) (lines : ℕ) : Type 0 where
+  -- what an issued command has: a block of at least one byte, which the buffer holds
   pub positive : 0 < size
   pub small : size ≤ length buffer
   -- "the same permitted memory is lent"
   pub permitted : length mem ≤ memoryLimit
   -- "whose table reaches End or a fault within N lines"
   pub reaches : traceOf mem lines table (times blocks size) .kind ≢ limit
-  pub sure : Sure way (traceOf mem lines table (times blocks size))
+  -- "on a read no named data covers a followed line"
+  pub clear : Uncovered way (traceOf mem lines table (times blocks size))
 
 -- ---- what is promised
 
@@ -81,12 +83,12 @@ pub data Open (size : ℕ) (w : World) : Type 0 where
 abbrev pub endOf : Kind → Outcome
 endOf well = Completes
 endOf (fault state) = Fails state
-endOf limit = Goes
+endOf limit = Goes  -- `reaches` rules this out
 
 abbrev pub endsAs : Way → Kind → Dat
 endsAs way well = Free
 endsAs way (fault state) = Halted way
-endsAs way limit = Halted way
+endsAs way limit = Halted way  -- `reaches` rules this out
 
 -- the bytes carried when a transfer has ended, by memory then and the bytes that have passed: on a write the blocks taken, and at most one block
 -- left in the buffer, are the named bytes in order; on a read memory is what it was, with the named areas filled in order by the blocks given
@@ -108,6 +110,7 @@ Delivered Read mem named after passed = Separate named → namedBytes after name
 pub record Demand (way : Way) (size : ℕ) (blocks : BlockCount) (table : ℕ) (mem : List ℕ) (lines : ℕ) (w : World) : Type 0 where
   -- "at most 2N + B turns do something"
   pub bounded : w .turns ≤ 2 * lines + blocks .0
+  -- with the response and the blocks, so many steps are accepted in all
   pub counted : w .steps ≤ 2 * lines + 2 * blocks .0 + 1
   -- "until the transfer ends a turn, the response or a block is always accepted"
   pub lively : runsOf (w .dat) ≡ true → Open size w
@@ -119,4 +122,5 @@ pub record Demand (way : Way) (size : ℕ) (blocks : BlockCount) (table : ℕ) (
   pub rung : runsOf (w .dat) ≡ false → w .rings ≡ traceOf mem lines table (times blocks size) .rings
   pub ringing : w .rings ≤ traceOf mem lines table (times blocks size) .rings
   pub kept : Kept way mem (traceOf mem lines table (times blocks size) .named) (w .memory)
+  -- told complete, DAT is free and B whole blocks have passed
   pub whole : w .told ≡ Completes → (w .dat ≡ Free) × (length (w .passed) ≡ times blocks size .0)

@@ -4,7 +4,7 @@ use mathlib.Core.List.{List, [], _∷_, _++_}
 use mathlib.Core.Bool.{Bool, true, false, cond, not}
 use lib.ListN.{take}
 use lib.Dec.{eqb}
-use Rattle.terms.specs.Answers.{numberOf, valueOf}
+use Rattle.terms.specs.Answers.{valueOf, isDone}
 use Rattle.terms.specs.declared.Answer.{Answer}
 use Rattle.table.specs.Trace.{ringOf}
 use Rattle.engine.specs.Transfer.{respondOf}
@@ -37,12 +37,8 @@ pub record World : Type 0 where
   pub turns : ℕ
   pub steps : ℕ
 
--- is a step accepted: number 0?
-abbrev pub accepts : Answer → Bool
-accepts answer = eqb (numberOf answer) 0
-
 abbrev pub tally : Answer → ℕ → ℕ
-tally answer n = cond (accepts answer) (suc n) n
+tally answer n = cond (isDone answer) (suc n) n
 
 -- the end that was told first
 abbrev pub toldOf : Outcome → Outcome → Outcome
@@ -50,7 +46,7 @@ toldOf Goes new = new
 toldOf Completes new = Completes
 toldOf (Fails state) new = Fails state
 
--- is the response awaited?
+-- does a running transfer await its response?
 abbrev pub awaitsOf : Dat → Bool
 awaitsOf Free = false
 awaitsOf (Busy answered) = false
@@ -102,7 +98,7 @@ afterBlock w r x block =
       told = toldOf (w .told) (r .outcome);
       buffer = x;
       memory = w .memory;
-      passed = cond (accepts (r .answer)) (w .passed ++ block) (w .passed);
+      passed = cond (isDone (r .answer)) (w .passed ++ block) (w .passed);
       rings = w .rings;
       turns = w .turns;
       steps = tally (r .answer) (w .steps);

@@ -88,7 +88,7 @@ loadOf t x mem at count =
     let held = heldOf (t .size) (length x) (t .held) in
     (more held count, paste x (held .0) (drop (indexOf at) mem) (count .0))
 
--- a read: the first bytes held go to an address; what it then holds, and memory
+-- a read: the first bytes held go to an address (a block given lies at the front, so the bytes held are its last ones); what it then holds, and memory
 abbrev pub unloadOf : Transfer → List ℕ → List ℕ → ℕ → ByteCount → ByteCount × List ℕ
 unloadOf t x mem at count =
     let held = heldOf (t .size) (length x) (t .held) in

@@ -38,7 +38,7 @@ pub struct Transfer {
     pub stage: Stage,
 }
 
-// The DAT side: free, busy after a response of type 11b, in a running transfer, or halted, until a reset, in a busy or in a
+// The DAT side: free, busy by a command of response type 11b (awaited or in), in a running transfer, or halted, until a reset, in a busy or in a
 // transfer of which only the way is still shown.
 pub enum Dat {
     Free,

@@ -1,40 +1,29 @@
 -- A whole access, as a guest makes it, is its byte accesses at rising offsets, also while Command Inhibit (DAT) refuses some. Assumes nothing.
 use Prim.Native.Nat.{ℕ, zero, suc, _+_, _-_, _*_, _/_, _%_, _^_, _≤_, _<_}
-use native.Mathlib.Nat.{sub-zero, mod-one, mod-lt, mod-eq-of-lt, lt-of-lt-of-le}
+use native.Mathlib.Nat.{sub-zero, mod-one, mod-lt, mod-eq-of-lt}
 use native.Mathlib.Omega.{arith}
 use mathlib.Core.Path.{_≡_, refl, sym, _∙_, ap}
-use mathlib.Core.Bool.{Bool, true, false, cond, _&&_, _||_, false≢true}
+use mathlib.Core.Logic.{inl, ⊎-elim}
+use mathlib.Core.Bool.{Bool, true, false, cond, _&&_}
 use lib.Bits.{bitAnd, and-mask, and-zero-r, or-zero-r}
 use lib.Dec.{eqb, lit<}
-use lib.Pow.{pow-mono, ones-lt}
-use borrow.Author.Tests.{eqb-true, eqb-false, le-leb, lt-ltb}
-use Rattle.terms.specs.declared.Answer.the-variants.{Done, DatInhibited}
+use lib.Pow.{ones-lt}
+use borrow.Author.Tests.{eqb-true, eqb-false}
+use Rattle.terms.specs.declared.Answer.the-variants.{Done}
 use Rattle.registers.specs.Bits.{field, without, put}
-use Rattle.registers.specs.Place.{words, find, wordAt, legal, limit, placeOf, targetOf, onesOf, lanesOf, placedOf, editOf, inside, guarded}
+use Rattle.registers.specs.Place.{words, find, wordAt, limit, onesOf, lanesOf, placedOf, editOf, guarded}
 use Rattle.registers.specs.Word.{orderBits, inUse, inhibits}
-use Rattle.registers.specs.Access.{shownOf, takeFrom, takeOf, readOf, writtenAs, writeOf}
+use Rattle.registers.specs.Access.{shownOf, takeFrom, takeOf, readOf, writeOf}
 use Rattle.registers.specs.Bytes.{readBytes, takeBytes, writeBytes}
 use Rattle.registers.specs.declared.place.Taker.the-variants.{Order}
 use Rattle.registers.specs.declared.place.Teller.the-variants.{Nothing}
 use Rattle.registers.specs.declared.place.Word.{Word}
 use Rattle.registers.specs.declared.place.Word.the-variants.{Takes, Tells}
-use Rattle.registers.specs.declared.place.Place.the-variants.{Here}
 use Rattle.registers.specs.declared.word.Facts.{Facts}
 use Rattle.registers.specs.declared.block.Registers.{Registers}
-use Rattle.registers.proofs.Lanes.{legal-cases, place-here, spans, both-true}
+use Rattle.registers.proofs.Lanes.{spans}
+use Rattle.registers.proofs.Exactly.{Named, Aimed, guarded-exactly, place-here, write-block}
 use Rattle.registers.proofs.Wide.{below, wide-take, wide-read}
-
--- the block after a write that names a place: "write wholly inside ... while Command Inhibit (DAT) is 1" changes nothing
-pub place-write : (offset n value : ℕ) (f : Facts) (r : Registers) (w : Word) (lane : ℕ) → placeOf offset n ≡ Here w lane n → value < 2 ^ (8 * n)
-    → writeOf r f offset n value .registers ≡ cond (inhibits (f .dat) offset n) r (takeOf w (editOf lane n value) f r)
-unfolding targetOf
-place-write offset n value f r w lane e small =
-    rw (e, lt-ltb value (2 ^ (8 * n)) small) (go (inhibits (f .dat) offset n))
-  where
-    go : (t : Bool) → cond t (writtenAs DatInhibited r) (writtenAs (Done 0) (takeOf w (editOf lane n value) f r)) .registers
-        ≡ cond t r (takeOf w (editOf lane n value) f r)
-    go true = refl
-    go false = refl
 
 -- ---- 00Ch-00Dh while DAT is inhibited
 
@@ -53,10 +42,12 @@ mode-held : (lane n value : ℕ) (f : Facts) (r : Registers) → inUse (f .dat) 
     → takeOf (Takes Order) (editOf lane n value) f r ≡ r
 unfolding takeOf takeFrom lanesOf placedOf onesOf
 mode-held lane n value f r held h small =
-    rw (held, mode-none (onesOf n * 2 ^ (8 * lane)) (low (onesOf n) (ones-lt (8 * n))), mode-none (value * 2 ^ (8 * lane)) (low value small), put-none)
-  where
-    low : (x : ℕ) → x < 2 ^ (8 * n) → x * 2 ^ (8 * lane) < 2 ^ 16
-    low x hx = lt-of-lt-of-le (below lane n x hx) (pow-mono {j = 16} (omega arith))
+    rw (
+      held,
+      mode-none (onesOf n * 2 ^ (8 * lane)) (below lane n 2 (onesOf n) h (ones-lt (8 * n))),
+      mode-none (value * 2 ^ (8 * lane)) (below lane n 2 value h small),
+      put-none,
+    )
 
 -- ---- a refused write is as one to a word that ignores writes
 
@@ -73,18 +64,13 @@ seen base f = cond (inUse (f .dat) && eqb base 0x004) (Tells Nothing) (wordAt ba
 
 -- all of 004h-007h is guarded
 block-guarded : (base offset lane n : ℕ) → Spot base offset lane n → base ≡ 0x004 → guarded offset n ≡ true
-unfolding guarded
-block-guarded base offset lane n s e = simp (le-leb 0x004 offset (omega arith), le-leb (offset + n) 0x008 (omega arith))
+block-guarded base offset lane n s e = guarded-exactly offset n .1 (inl (omega arith, omega arith))
 
 -- elsewhere only what lies in 00Ch-00Dh is
 other-guarded : (base offset lane n : ℕ) → Spot base offset lane (suc n) → (base ≡ 0x004 → ⊥) → guarded offset (suc n) ≡ true
     → (base ≡ 0x00C) × (lane + suc n ≤ 2)
-unfolding guarded
-other-guarded base offset lane n s other = go (inside 0x004 0x007 offset (suc n)) refl
-  where
-    go : (t : Bool) → inside 0x004 0x007 offset (suc n) ≡ t → (t || inside 0x00C 0x00D offset (suc n)) ≡ true → (base ≡ 0x00C) × (lane + suc n ≤ 2)
-    go true e g = let h = both-true 0x004 offset (offset + suc n) 0x008 e in absurd (other (omega arith))
-    go false e g = let h = both-true 0x00C offset (offset + suc n) 0x00E g in (omega arith, omega arith)
+other-guarded base offset lane n s other g =
+    ⊎-elim (λ h. absurd (other (omega arith))) (λ h. (omega arith, omega arith)) (guarded-exactly offset (suc n) .0 g)
 
 -- 00Ch, Transfer Mode and Command
 pub order-at : wordAt 0x00C ≡ Takes Order
@@ -117,7 +103,7 @@ byte-write base offset lane value f r s =
     let small : value % 256 < 256 = mod-lt value (lit< tt) in
     let word : offset / 4 * 4 ≡ base = omega arith in
     let byte : offset % 4 ≡ lane = omega arith in
-    place-write offset 1 (value % 256) f r (wordAt base) lane (rw (← word, ← byte) (place-here offset 1 refl (mod-one offset) (s .top))) small
+    rw (word, byte) at (write-block r f offset 1 (value % 256) ((inl refl, (mod-one offset, s .top)), small))
     ∙ seen-write base offset lane 0 (value % 256) f r s small
 
 -- of all, at rising offsets
@@ -138,21 +124,20 @@ bytes-write (suc n) base offset lane value f r s =
 -- ---- the theorems
 
 -- "Bytes of one access take effect in rising offset": a write that names a place leaves the block as its byte writes do, one after the other
-pub wide-write : (offset n value : ℕ) (f : Facts) (r : Registers) → legal n ≡ true → offset % n ≡ 0 → offset + n ≤ limit → value < 2 ^ (8 * n)
+pub wide-write : (offset n value : ℕ) (f : Facts) (r : Registers) → Aimed offset n value
     → writeOf r f offset n value .registers ≡ writeBytes n offset value f r
-wide-write offset zero value f r width even top small = absurd (false≢true width)
-wide-write offset (suc n) value f r width even top small =
+wide-write offset zero value f r ((width, (even, top)), small) = let s = spans offset 0 width even in absurd (omega arith)
+wide-write offset (suc n) value f r ((width, (even, top)), small) =
     let base = offset / 4 * 4 in
     let lane = offset % 4 in
-    let fits = spans offset (suc n) (legal-cases (suc n) width) even .1 in
+    let fits = spans offset (suc n) width even .1 in
     let s : Spot base offset lane (suc n) = record { even = omega arith; at = omega arith; fits = fits; top = top } in
-    place-write offset (suc n) value f r (wordAt base) lane (place-here offset (suc n) width even top) small
+    write-block r f offset (suc n) value ((width, (even, top)), small)
     ∙ seen-write base offset lane n value f r s small
     ∙ wide-take n (seen base f) lane value f r fits small
     ∙ sym (bytes-write (suc n) base offset lane value f r s)
 
 -- "Little-endian": a read that names a place gives the bytes of its byte reads, the lowest first
-pub wide-reads : (offset n : ℕ) (f : Facts) (r : Registers) → legal n ≡ true → offset % n ≡ 0 → offset + n ≤ limit
+pub wide-reads : (offset n : ℕ) (f : Facts) (r : Registers) → Named offset n
     → readOf r f offset n ≡ Done (readBytes (shownOf (wordAt (offset / 4 * 4)) f r) (offset % 4) n)
-wide-reads offset n f r width even top =
-    rw (place-here offset n width even top, wide-read n (shownOf (wordAt (offset / 4 * 4)) f r) (offset % 4))
+wide-reads offset n f r h = rw (place-here offset n h, wide-read n (shownOf (wordAt (offset / 4 * 4)) f r) (offset % 4))

@@ -1,20 +1,21 @@
 -- What the interrupts never store, at start and after every step (`Kept`); so what 030h bits 8 and 15 read, and when the line holds. Assumes nothing.
-use Prim.Native.Nat.{ℕ, _+_, _/_, _^_}
+use Prim.Native.Nat.{ℕ, _+_, _/_, _^_, _<_}
 use native.Mathlib.Omega.{arith}
 use mathlib.Core.Path.{_≡_, refl, sym, _∙_, ap}
-use mathlib.Core.Logic.{_↔_, _⊎_, inl, inr}
-use mathlib.Core.Bool.{Bool, true, false, not, cond, _&&_, _||_, and-true, and-false, or-true, or-false, true≢false}
+use mathlib.Core.Logic.{_↔_, Iff·rfl, _⊎_, inl, inr}
+use mathlib.Core.Bool.{Bool, true, false, not, _&&_, _||_, and-true, and-false, and-assoc, and-not-self, and-or-distrib-right, or-true, or-false, false≢true}
 use lib.Bits.{bitAnd, bitOr}
-use lib.Dec.{eqb, ltb}
-use borrow.Author.Tests.{eqb-true, ltb-true, ltb-false}
+use lib.Dec.{ltb}
+use borrow.Author.Tests.{ltb-true, lt-ltb}
 use Rattle.registers.specs.Bits.{bitOf, field, bit, without, put}
-use Rattle.registers.specs.Interrupt.{eventBit, eventSet, withStatus, raised, acknowledged, carried, enabling, signalling, forcible, forced, cardBit, errorBit, shownStatus, counted, lineOf}
+use Rattle.registers.specs.Interrupt.{eventBit, eventSet, raised, acknowledged, carried, enabling, signalling, forcible, forced, cardBit, errorBit, shownStatus, counted, lineOf}
 use Rattle.registers.specs.Word.{stored}
 use Rattle.registers.specs.Block.{powerOn}
 use Rattle.registers.specs.declared.place.Edit.{Edit}
 use Rattle.registers.specs.declared.interrupt.Event.{Event}
 use Rattle.registers.specs.declared.interrupt.Interrupts.{Interrupts}
-use Rattle.registers.proofs.Sets.{bit-and, bit-or, bit-without, bit-none, bit-shr}
+use Rattle.registers.proofs.Tests.{eq-test, both, fails, nor, by-test, law}
+use Rattle.registers.proofs.Sets.{bit-is, bit-and, bit-or, bit-without, bit-none, bit-some, none-at, bit-shr}
 use Rattle.registers.proofs.Standing.{some-bit, after-enable, acknowledge-keeps, counts, Signals, line-up}
 use Rattle.registers.proofs.Events.{event-one, raisable, event-raisable}
 
@@ -30,49 +31,33 @@ zero-within b k = rw (bit-none k)
 
 -- by computing, where both are numerals
 pub none-within : (a b : ℕ) → without a b ≡ 0 → Within a b
-none-within a b h k = sym (bit-without a b k) ∙ ap (λ (n : ℕ). bitOf n k) h ∙ bit-none k
+none-within a b h k = sym (bit-without a b k) ∙ none-at _ k h
 
 -- what stands not in the one stands not in the other
 pub within-none : (a b k : ℕ) → Within a b → bitOf b k ≡ false → bitOf a k ≡ false
 within-none a b k h n = sym (and-true (bitOf a k)) ∙ ap (λ (x : Bool). bitOf a k && not x) (sym n) ∙ h k
 
--- within what is within
-pub within-trans : (a b c : ℕ) → Within a b → Within b c → Within a c
-within-trans a b c h g k = go (bitOf a k) (bitOf b k) (bitOf c k) (h k) (g k)
-  where
-    go : (x y z : Bool) → (x && not y) ≡ false → (y && not z) ≡ false → (x && not z) ≡ false
-    go true true z p q = q
-    go true false z p q = absurd (true≢false p)
-    go false y z p q = refl
-
 -- the bits of two sets
 pub or-within : (a b c : ℕ) → Within a c → Within b c → Within (bitOr a b) c
-or-within a b c h g k = rw bit-or (go (bitOf a k) (bitOf b k) (bitOf c k) (h k) (g k))
-  where
-    go : (x y z : Bool) → (x && not z) ≡ false → (y && not z) ≡ false → ((x || y) && not z) ≡ false
-    go true y z p q = p
-    go false y z p q = q
-
--- a bit of `x && y` is one of x, and one of y
-both-within : (x y : Bool) → (((x && y) && not x) ≡ false) × (((x && y) && not y) ≡ false)
-both-within true true = (refl, refl)
-both-within true false = (refl, refl)
-both-within false y = (refl, refl)
+or-within a b c h g k = rw (bit-or, and-or-distrib-right) (nor _ _ (h k) (g k))
 
 -- the bits that two sets share
 pub and-within : (a b : ℕ) → Within (bitAnd a b) b
-and-within a b k = rw bit-and (both-within (bitOf a k) (bitOf b k) .1)
+and-within a b k = simp (bit-and, and-assoc, and-not-self, and-false)
 
-some-within : (a b c : ℕ) → Within a c → Within (bitAnd a b) c
-some-within a b c h = within-trans (bitAnd a b) a c (λ k. rw bit-and (both-within (bitOf a k) (bitOf b k) .0)) h
+less-law : (x y z : Bool) → (x && not z) ≡ false → ((x && y) && not z) ≡ false
+less-law = law 3 _ _ _ refl
 
 -- a set less some bits
 pub less-within : (a b c : ℕ) → Within a c → Within (without a b) c
-less-within a b c h = within-trans (without a b) a c (λ k. rw bit-without (both-within (bitOf a k) (not (bitOf b k)) .0)) h
+less-within a b c h k = rw bit-without (less-law (bitOf a k) (not (bitOf b k)) (bitOf c k) (h k))
+
+wider-law : (x y z : Bool) → (x && not y || y && not z) ≡ false → (x && not z) ≡ false
+wider-law = law 3 _ _ _ refl
 
 -- a wider mask, by computing
 pub wider-within : (a b c : ℕ) → without b c ≡ 0 → Within a b → Within a c
-wider-within a b c h g = within-trans a b c g (none-within b c h)
+wider-within a b c h g k = wider-law (bitOf a k) (bitOf b k) (bitOf c k) (nor _ _ (g k) (none-within b c h k))
 
 -- a written word keeps to a mask that holds its old bits and the new ones
 pub put-within : (old lanes bits mask : ℕ) → Within old mask → Within bits mask → Within (put old lanes bits) mask
@@ -101,25 +86,23 @@ pub kept-start : Kept (powerOn .interrupts)
 kept-start =
     record { enabled = zero-within 0; plain = zero-within plain; chosen = zero-within carried; signed = zero-within carried }
 
--- other status bits, enabled and plain
-status-kept : (i : Interrupts) (s : ℕ) → Within s (i .enabled) → Within s plain → Kept i → Kept (withStatus i s)
-status-kept i s e p h = record { enabled = e; plain = p; chosen = h .chosen; signed = h .signed }
-
+-- plain bits raised, where they are enabled
 set-kept : (bits : ℕ) (i : Interrupts) → Within bits plain → Kept i → Kept (raised bits i)
 set-kept bits i w h =
     let new = bitAnd bits (i .enabled) in
-    status-kept i (bitOr (i .status) new) (or-within (i .status) new (i .enabled) (h .enabled) (and-within bits (i .enabled)))
-    (or-within (i .status) new plain (h .plain) (some-within bits (i .enabled) plain w)) h
+    record {
+      enabled = or-within (i .status) new (i .enabled) (h .enabled) (and-within bits (i .enabled));
+      plain = or-within (i .status) new plain (h .plain) (λ k. rw bit-and (less-law (bitOf bits k) (bitOf (i .enabled) k) (bitOf plain k) (w k)));
+      chosen = h .chosen;
+      signed = h .signed;
+    }
 
 -- the events' bits are plain
 event-plain : (e : Event) → Within (eventSet e) plain
 unfolding without
 event-plain e =
-    wider-within (eventSet e) raisable plain refl (λ k. rw (event-one e k) (go k (eqb k (eventBit e)) refl))
-  where
-    go : (k : ℕ) (t : Bool) → eqb k (eventBit e) ≡ t → (t && not (bitOf raisable k)) ≡ false
-    go k true h = rw (eqb-true k (eventBit e) h, event-raisable e)
-    go k false h = refl
+    wider-within (eventSet e) raisable plain refl (λ k.
+    rw (event-one e k) (fails _ (both _ _ (eq-test k (eventBit e)) Iff·rfl) .1 (λ (s, n). false≢true (rw (s, event-raisable e) at n))))
 
 -- any event
 pub kept-raise : (e : Event) (i : Interrupts) → Kept i → Kept (raised (eventSet e) i)
@@ -128,8 +111,12 @@ kept-raise e i h = set-kept (eventSet e) i (event-plain e) h
 -- "Writing 1 clears, 0 keeps."
 pub kept-acknowledge : (bits : ℕ) (i : Interrupts) → Kept i → Kept (acknowledged bits i)
 kept-acknowledge bits i h =
-    status-kept i (without (i .status) bits) (less-within (i .status) bits (i .enabled) (h .enabled))
-    (less-within (i .status) bits plain (h .plain)) h
+    record {
+      enabled = less-within (i .status) bits (i .enabled) (h .enabled);
+      plain = less-within (i .status) bits plain (h .plain);
+      chosen = h .chosen;
+      signed = h .signed;
+    }
 
 -- "clearing an enable clears the bit"
 pub kept-enable : (e : Edit) (i : Interrupts) → Kept i → Kept (enabling e i)
@@ -142,10 +129,7 @@ kept-enable e i h =
     }
   where
     left : (s b n : Bool) → (s && not b) ≡ false → ((s && not (b && not n)) && not n) ≡ false
-    left true true true g = refl
-    left true true false g = refl
-    left true false n g = absurd (true≢false g)
-    left false b n g = refl
+    left = law 3 _ _ _ refl
 
 -- the signal enables
 pub kept-signal : (e : Edit) (i : Interrupts) → Kept i → Kept (signalling e i)
@@ -165,11 +149,9 @@ bit-card true i k = bit-and (i .enabled) (bit 8) k
 bit-card false i k = bit-none k
 
 bit-error : (i : Interrupts) (k : ℕ) → bitOf (errorBit i) k ≡ (ltb (field 15 0) (i .status) && bitOf (bit 15) k)
-bit-error i k = go (ltb (field 15 0) (i .status))
-  where
-    go : (t : Bool) → bitOf (cond t (bit 15) 0) k ≡ (t && bitOf (bit 15) k)
-    go true = refl
-    go false = bit-none k
+bit-error i k =
+    let t = ltb (field 15 0) (i .status) in
+    by-test (λ (x : ℕ). bitOf x k ≡ (t && bitOf (bit 15) k)) t (λ e. rw e) (λ e. rw e (bit-none k))
 
 shown-bit : (level : Bool) (i : Interrupts) (k : ℕ)
     → bitOf (shownStatus level i) k
@@ -177,44 +159,24 @@ shown-bit : (level : Bool) (i : Interrupts) (k : ℕ)
 unfolding shownStatus
 shown-bit level i k = rw (bit-or, bit-or, bit-card level i k, bit-error i k)
 
--- the masks at bits 8 and 15
-record Masks : Type 0 where
-  plain-8 : bitOf plain 8 ≡ false
-  plain-15 : bitOf plain 15 ≡ false
-  card-8 : bitOf (bit 8) 8 ≡ true
-  card-15 : bitOf (bit 8) 15 ≡ false
-  error-8 : bitOf (bit 15) 8 ≡ false
-  error-15 : bitOf (bit 15) 15 ≡ true
-  counts-8 : counts 8 ≡ true
-
-masks : Masks
-unfolding bitOf
-masks = record { plain-8 = refl; plain-15 = refl; card-8 = refl; card-15 = refl; error-8 = refl; error-15 = refl; counts-8 = refl }
-
 -- "Card Interrupt (030h bit 8) is the card's level while enabled"
 pub shown-card : (level : Bool) (i : Interrupts) → Kept i → bitOf (shownStatus level i) 8 ≡ (level && bitOf (i .enabled) 8)
 shown-card level i h =
-    simp (shown-bit level i 8, within-none (i .status) plain 8 (h .plain) (masks .plain-8), masks .card-8, masks .error-8, and-true, and-false, or-false)
+    simp (shown-bit level i 8, within-none (i .status) plain 8 (h .plain) (bit-is plain 8), bit-is (bit 8) 8, bit-is (bit 15) 8, and-true, and-false, or-false)
 
 -- "bit 15 is 1 while any error bit stands": while the status reaches above 030h
 pub shown-error : (level : Bool) (i : Interrupts) → Kept i → bitOf (shownStatus level i) 15 ≡ ltb (field 15 0) (i .status)
 shown-error level i h =
-    simp (shown-bit level i 15, within-none (i .status) plain 15 (h .plain) (masks .plain-15), masks .card-15, masks .error-15, and-true, and-false)
+    simp (shown-bit level i 15, within-none (i .status) plain 15 (h .plain) (bit-is plain 15), bit-is (bit 8) 15, bit-is (bit 15) 15, and-true, and-false)
 
 -- a number reaches above its low 16 bits exactly when a bit above them stands
 reaches : (n : ℕ) → (ltb (field 15 0) n ≡ true) ↔ ((k : ℕ) × (bitOf n (16 + k) ≡ true))
-reaches n = (λ t. up (some-bit (n / 2 ^ 16)) t, λ (k, s). down k s (ltb (field 15 0) n) refl)
+reaches n =
+    (λ t. up (some-bit (n / 2 ^ 16)) (ltb-true (field 15 0) n t), λ (k, s). lt-ltb _ n (let some = bit-some (n / 2 ^ 16) k (bit-shr n 16 k ∙ s) in omega arith))
   where
-    up : (n / 2 ^ 16 ≡ 0) ⊎ ((k : ℕ) × (bitOf (n / 2 ^ 16) k ≡ true)) → ltb (field 15 0) n ≡ true → (k : ℕ) × (bitOf n (16 + k) ≡ true)
-    up (inl z) t = let big = ltb-true (field 15 0) n t in absurd (omega arith)
-    up (inr (k, b)) t = (k, sym (bit-shr n 16 k) ∙ b)
-
-    down : (k : ℕ) → bitOf n (16 + k) ≡ true → (t : Bool) → ltb (field 15 0) n ≡ t → t ≡ true
-    down k s true e = refl
-    down k s false e =
-        let small = ltb-false (field 15 0) n e in
-        let z : n / 2 ^ 16 ≡ 0 = omega arith in
-        sym (bit-none k) ∙ ap (λ (m : ℕ). bitOf m k) (sym z) ∙ bit-shr n 16 k ∙ s
+    up : (n / 2 ^ 16 ≡ 0) ⊎ ((k : ℕ) × (bitOf (n / 2 ^ 16) k ≡ true)) → field 15 0 < n → (k : ℕ) × (bitOf n (16 + k) ≡ true)
+    up (inl z) big = absurd (omega arith)
+    up (inr (k, b)) big = (k, sym (bit-shr n 16 k) ∙ b)
 
 -- "bit 15 is 1 while any error bit stands": exactly when one of 032h does
 pub error-exactly : (level : Bool) (i : Interrupts) → Kept i
@@ -230,9 +192,7 @@ card-held bits level i h = shown-card level (acknowledged bits i) (kept-acknowle
 
 -- the line does not look at bit 15
 not-error : (k : ℕ) → counts k ≡ true → bitOf (bit 15) k ≡ false
-not-error k c =
-    let none : bitAnd counted (bit 15) ≡ 0 = refl in
-    ap (λ (b : Bool). b && bitOf (bit 15) k) (sym c) ∙ sym (bit-and counted (bit 15) k) ∙ ap (λ (n : ℕ). bitOf n k) none ∙ bit-none k
+not-error k c = rw c at (sym (bit-and counted (bit 15) k) ∙ none-at (bitAnd counted (bit 15)) k refl)
 
 -- a bit that counts is a stored one or the card's
 counted-bit : (level : Bool) (i : Interrupts) (k : ℕ) → counts k ≡ true
@@ -249,6 +209,6 @@ acknowledge-holds bits level i k h (c, s, e) =
 -- and it stays up, whatever is acknowledged, while the card's level is up, enabled and signalled
 pub level-holds : (bits : ℕ) (i : Interrupts) → bitOf (i .enabled) 8 ≡ true → bitOf (i .signal) 8 ≡ true → lineOf true (acknowledged bits i) ≡ true
 level-holds bits i on e =
-    let c = masks .counts-8 in
+    let c = bit-is counted 8 in
     line-up true (acknowledged bits i) 8
-    (c, counted-bit true (acknowledged bits i) 8 c ∙ rw (on, masks .card-8) (or-true (bitOf (acknowledged bits i .status) 8)), e)
+    (c, counted-bit true (acknowledged bits i) 8 c ∙ rw (on, bit-is (bit 8) 8) (or-true (bitOf (acknowledged bits i .status) 8)), e)

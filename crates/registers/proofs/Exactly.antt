@@ -2,37 +2,36 @@
 use Prim.Native.Nat.{ℕ, _+_, _*_, _/_, _%_, _^_, _≤_, _<_}
 use native.Mathlib.Omega.{arith}
 use mathlib.Core.Path.{_≡_, refl, sym, _∙_}
-use mathlib.Core.Logic.{_↔_, _≢_, Iff·rfl, Iff·trans, Iff·and, _⊎_, inl, inr}
+use mathlib.Core.Logic.{_↔_, _≢_, Iff·rfl, Iff·trans, Iff·and, _⊎_}
 use mathlib.Core.Bool.{Bool, true, false, cond, _&&_, true≢false, false≢true}
 use lib.Dec.{eqb, leb}
 use Rattle.terms.specs.Answers.{numberOf, valueOf}
 use Rattle.terms.specs.declared.Answer.the-variants.{Done, NoPlace, DatInhibited}
-use Rattle.registers.specs.Place.{legal, limit, wordAt, placeOf, fitsOf, cutOf, editOf, aimed, targetOf, touches, guarded}
+use Rattle.registers.specs.Place.{legal, limit, wordAt, placeOf, fitsOf, editOf, aimed, targetOf, touches, guarded}
 use Rattle.registers.specs.Word.{inUse, inhibits}
-use Rattle.registers.specs.Access.{shownOf, takeOf, readAt, readOf, writtenAs, writeAt, writeOf}
+use Rattle.registers.specs.Access.{takeOf, readAt, readOf, Written, writtenAs, writeAt, writeOf}
 use Rattle.registers.specs.declared.place.Word.{Word}
 use Rattle.registers.specs.declared.place.Place.{Place}
 use Rattle.registers.specs.declared.place.Place.the-variants.{Nowhere, Here}
-use Rattle.registers.specs.declared.place.Target.the-variants as target
+use Rattle.registers.specs.declared.place.Target.{Target}
 use Rattle.registers.specs.declared.word.Facts.{Facts}
 use Rattle.registers.specs.declared.block.Registers.{Registers}
-use Rattle.registers.specs.declared.block.Written.{Written}
-use Rattle.registers.proofs.Tests.{eq-test, eq-fails, le-test, le-fails, lt-test, lt-fails, both, either, lacks, fails}
-use Rattle.registers.proofs.Lanes.{legal-cases}
+use Rattle.registers.proofs.Tests.{eq-test, eq-fails, le-test, le-fails, lt-test, lt-fails, by-test, both, either, lacks, fails}
+use Rattle.registers.proofs.Lanes.{Width, legal-exactly, spans}
 
 -- ---- the causes
 
 -- "width ... 1, 2 or 4"
 abbrev pub Legal : ℕ → Type 0
-Legal width = (width ≡ 1) ⊎ ((width ≡ 2) ⊎ (width ≡ 4))
+Legal width = Width width
 
 -- an access that names a place
 abbrev pub Named : ℕ → ℕ → Type 0
 Named offset width = Legal width × ((offset % width ≡ 0) × (offset + width ≤ limit))
 
 -- 1: "width not 1, 2 or 4; offset not a multiple of the width; offset + width over 256"
-abbrev pub Unnamed : ℕ → ℕ → Type 0
-Unnamed offset width = (Legal width → ⊥) ⊎ ((offset % width ≢ 0) ⊎ (limit < offset + width))
+abbrev pub NamesNoPlace : ℕ → ℕ → Type 0
+NamesNoPlace offset width = (Legal width → ⊥) ⊎ ((offset % width ≢ 0) ⊎ (limit < offset + width))
 
 -- "wholly inside 004h-007h or 00Ch-00Dh"
 abbrev pub Guarded : ℕ → ℕ → Type 0
@@ -42,19 +41,11 @@ Guarded offset width = ((0x004 ≤ offset) × (offset + width ≤ 0x008)) ⊎ ((
 abbrev named : ℕ → ℕ → Bool
 named offset width = legal width && (eqb (offset % width) 0 && leb (offset + width) limit)
 
-legal-exactly : (width : ℕ) → (legal width ≡ true) ↔ Legal width
-legal-exactly width = (legal-cases width, back)
-  where
-    back : Legal width → legal width ≡ true
-    back (inl e) = rw e
-    back (inr (inl e)) = rw e
-    back (inr (inr e)) = rw e
-
 named-exactly : (offset width : ℕ) → (named offset width ≡ true) ↔ Named offset width
 named-exactly offset width =
     both _ _ (legal-exactly width) (both _ _ (eq-test (offset % width) 0) (le-test (offset + width) limit))
 
-unnamed-exactly : (offset width : ℕ) → (named offset width ≡ false) ↔ Unnamed offset width
+unnamed-exactly : (offset width : ℕ) → (named offset width ≡ false) ↔ NamesNoPlace offset width
 unnamed-exactly offset width =
     lacks _ _ (fails _ (legal-exactly width)) (lacks _ _ (eq-fails (offset % width) 0) (le-fails (offset + width) limit))
 
@@ -87,6 +78,10 @@ place-named offset width = go (legal width) (eqb (offset % width) 0) (leb (offse
     go true false c = refl
     go false b c = refl
 
+-- an access that names a place has one
+pub place-here : (offset width : ℕ) → Named offset width → placeOf offset width ≡ here offset width
+place-here offset width h = rw (place-named offset width, named-exactly offset width .1 h)
+
 -- what a place says of the access that names it
 pub record Lies (offset width : ℕ) (w : Word) (lane n : ℕ) : Type 0 where
   pub access : Named offset width
@@ -102,50 +97,47 @@ place-lies offset width w lane n h = go (named offset width) refl (sym (place-na
     go true e g = record { access = named-exactly offset width .0 e; word = cc; start = cc; size = cc }
     go false e g = let z : _≡_ {A = ℕ} 0 1 = cc in absurd (omega arith)
 
+-- the bytes of a place are bytes of its word
+abbrev pub Spans : Place → Type 0
+Spans Nowhere = Unit
+Spans (Here word lane width) = (0 < width) × (lane + width ≤ 4)
+
+-- as no aligned access reaches into the next word
+pub place-spans : (offset width : ℕ) → Spans (placeOf offset width)
+place-spans offset width = go (placeOf offset width) refl
+  where
+    go : (p : Place) → placeOf offset width ≡ p → Spans p
+    go Nowhere e = tt
+    go (Here w lane n) e =
+        let at = place-lies offset width w lane n e in
+        rw (← at .start, ← at .size) (spans offset width (at .access .0) (at .access .1 .0))
+
+-- a byte of an access lies in the word that it goes to
+pub word-touched : (offset width byte : ℕ) (w : Word) (lane n : ℕ) → placeOf offset width ≡ Here w lane n → touches byte offset width ≡ true
+    → w ≡ wordAt (byte / 4 * 4)
+word-touched offset width byte w lane n e t =
+    let at = place-lies offset width w lane n e in
+    let s = spans offset width (at .access .0) (at .access .1 .0) in
+    let b = touches-exactly byte offset width .0 t in
+    let same : offset / 4 * 4 ≡ byte / 4 * 4 = omega arith in
+    rw same at (sym (at .word))
+
 -- ---- the answers
 
--- an access that names a place, or not; and one that is inhibited, or not
-code : Bool → Bool → ℕ
-code found inhibited = cond found (cond inhibited 2 0) 1
+-- neither holds, or both
+neither : {A B : Type 0} → (A → ⊥) → (B → ⊥) → A ↔ B
+neither f g = (λ a. absurd (f a), λ b. absurd (g b))
 
-code-0 : (s t : Bool) → (code s t ≡ 0) ↔ ((s ≡ true) × (t ≡ false))
-unfolding code
-code-0 true true = (λ h. absurd (omega arith), λ (a, b). absurd (true≢false b))
-code-0 true false = (λ h. (refl, refl), λ h. refl)
-code-0 false t = (λ h. absurd (omega arith), λ (a, b). absurd (false≢true a))
+together : {A B : Type 0} → A → B → A ↔ B
+together a b = (λ _. b, λ _. a)
 
-code-1 : (s t : Bool) → (code s t ≡ 1) ↔ (s ≡ false)
-unfolding code
-code-1 true true = (λ h. absurd (omega arith), λ h. absurd (true≢false h))
-code-1 true false = (λ h. absurd (omega arith), λ h. absurd (true≢false h))
-code-1 false t = (λ h. refl, λ h. refl)
-
-code-2 : (s t : Bool) → (code s t ≡ 2) ↔ ((s ≡ true) × (t ≡ true))
-unfolding code
-code-2 true true = (λ h. (refl, refl), λ h. refl)
-code-2 true false = (λ h. absurd (omega arith), λ (a, b). absurd (false≢true b))
-code-2 false t = (λ h. absurd (omega arith), λ (a, b). absurd (false≢true a))
-
-module _ (r : Registers) (f : Facts) (offset width : ℕ) where
-  read-number : numberOf (readOf r f offset width) ≡ code (named offset width) false
-  unfolding code
-  read-number = rw (place-named offset width) (go (named offset width))
-    where
-      go : (t : Bool) → numberOf (readAt (cond t (here offset width) Nowhere) f r) ≡ cond t 0 1
-      go true = refl
-      go false = refl
-
-  -- row 1 of a read: "width not 1, 2 or 4; offset not a multiple of the width; offset + width over 256"
-  pub read-1 : (numberOf (readOf r f offset width) ≡ 1) ↔ Unnamed offset width
-  read-1 = rw read-number (Iff·trans (code-1 _ _) (unnamed-exactly offset width))
-
-  -- row 0: every other read is done
-  pub read-0 : (numberOf (readOf r f offset width) ≡ 0) ↔ Named offset width
-  read-0 = rw read-number (Iff·trans (code-0 _ _) (λ (s, t). named-exactly offset width .0 s, λ n. (named-exactly offset width .1 n, refl)))
-
-  -- and shows the bytes that it names
-  pub read-done : Named offset width → readOf r f offset width ≡ Done (cutOf (shownOf (wordAt (offset / 4 * 4)) f r) (offset % 4) width)
-  read-done h = rw (place-named offset width, named-exactly offset width .1 h)
+-- row 1 of a read: "width not 1, 2 or 4; offset not a multiple of the width; offset + width over 256"
+pub read-1 : (r : Registers) (f : Facts) (offset width : ℕ) → (numberOf (readOf r f offset width) ≡ 1) ↔ NamesNoPlace offset width
+read-1 r f offset width = rw (place-named offset width) (Iff·trans (go (named offset width)) (unnamed-exactly offset width))
+  where
+    go : (t : Bool) → (numberOf (readAt (cond t (here offset width) Nowhere) f r) ≡ 1) ↔ (t ≡ false)
+    go true = neither (λ e. omega arith) true≢false
+    go false = together refl refl
 
 -- ---- a write
 
@@ -154,8 +146,8 @@ abbrev pub Aimed : ℕ → ℕ → ℕ → Type 0
 Aimed offset width value = Named offset width × (value < 2 ^ (8 * width))
 
 -- 1, all of it: with "value too big for the width"
-abbrev pub Unaimed : ℕ → ℕ → ℕ → Type 0
-Unaimed offset width value = Unnamed offset width ⊎ (2 ^ (8 * width) ≤ value)
+abbrev pub WritesNoPlace : ℕ → ℕ → ℕ → Type 0
+WritesNoPlace offset width value = NamesNoPlace offset width ⊎ (2 ^ (8 * width) ≤ value)
 
 -- 2: "write wholly inside 004h-007h or 00Ch-00Dh while Command Inhibit (DAT) is 1"
 abbrev pub Inhibited : Facts → ℕ → ℕ → Type 0
@@ -165,6 +157,9 @@ module _ (r : Registers) (f : Facts) (offset width value : ℕ) where
   abbrev found : Bool
   found = named offset width && fitsOf width value
 
+  abbrev held : Bool
+  held = inhibits (f .dat) offset width
+
   -- the block after a write that is done
   abbrev pub done : Registers
   done = takeOf (wordAt (offset / 4 * 4)) (editOf (offset % 4) width value) f r
@@ -172,60 +167,51 @@ module _ (r : Registers) (f : Facts) (offset width value : ℕ) where
   abbrev outcome : Bool → Bool → Written
   outcome s t = cond s (cond t (writtenAs DatInhibited r) (writtenAs (Done 0) done)) (writtenAs NoPlace r)
 
-  write-outcome : writeOf r f offset width value ≡ outcome found (inhibits (f .dat) offset width)
+  write-outcome : writeOf r f offset width value ≡ outcome found held
   unfolding targetOf
   write-outcome = rw (place-named offset width) (place (named offset width))
     where
-      fit : (t : Bool) →
-          writeAt (cond t (target.At (wordAt (offset / 4 * 4)) (editOf (offset % 4) width value)) target.Nowhere) (inhibits (f .dat) offset width) f r
-          ≡ outcome t (inhibits (f .dat) offset width)
-      fit true = refl
-      fit false = refl
-
-      place : (s : Bool) →
-          writeAt (aimed value (cond s (here offset width) Nowhere)) (inhibits (f .dat) offset width) f r
-          ≡ outcome (s && fitsOf width value) (inhibits (f .dat) offset width)
-      place true = fit (fitsOf width value)
+      place : (s : Bool) → writeAt (aimed value (cond s (here offset width) Nowhere)) held f r ≡ outcome (s && fitsOf width value) held
+      place true = by-test (λ (x : Target). writeAt x held f r ≡ outcome (fitsOf width value) held) (fitsOf width value) (λ e. rw e) (λ e. rw e)
       place false = refl
 
-  write-number : numberOf (writeOf r f offset width value .answer) ≡ code found (inhibits (f .dat) offset width)
-  unfolding code
-  write-number = rw write-outcome (go found (inhibits (f .dat) offset width))
-    where
-      go : (s t : Bool) → numberOf (outcome s t .answer) ≡ cond s (cond t 2 0) 1
-      go true true = refl
-      go true false = refl
-      go false t = refl
+  -- the number says which
+  numbers : (s t : Bool) → let n = numberOf (outcome s t .answer) in
+      ((n ≡ 0) ↔ ((s ≡ true) × (t ≡ false))) × ((n ≡ 1) ↔ (s ≡ false)) × ((n ≡ 2) ↔ ((s ≡ true) × (t ≡ true)))
+  numbers true true = (neither (λ e. omega arith) (λ h. true≢false (h .1)), neither (λ e. omega arith) true≢false, together refl (refl, refl))
+  numbers true false = (together refl (refl, refl), neither (λ e. omega arith) true≢false, neither (λ e. omega arith) (λ h. false≢true (h .1)))
+  numbers false t = (neither (λ e. omega arith) (λ h. false≢true (h .0)), together refl refl, neither (λ e. omega arith) (λ h. false≢true (h .0)))
 
   aimed-exactly : (found ≡ true) ↔ Aimed offset width value
   aimed-exactly = both _ _ (named-exactly offset width) (lt-test value (2 ^ (8 * width)))
 
-  inhibited-exactly : (inhibits (f .dat) offset width ≡ true) ↔ Inhibited f offset width
+  inhibited-exactly : (held ≡ true) ↔ Inhibited f offset width
   inhibited-exactly = both _ _ Iff·rfl (guarded-exactly offset width)
 
   -- row 1 of a write: as of a read, and "value too big for the width"
-  pub write-1 : (numberOf (writeOf r f offset width value .answer) ≡ 1) ↔ Unaimed offset width value
-  write-1 =
-      rw write-number
-      (Iff·trans (code-1 _ _)
-      (lacks _ _ (unnamed-exactly offset width) (lt-fails value (2 ^ (8 * width)))))
+  pub write-1 : (numberOf (writeOf r f offset width value .answer) ≡ 1) ↔ WritesNoPlace offset width value
+  write-1 = rw write-outcome (Iff·trans (numbers found held .1) (lacks _ _ (unnamed-exactly offset width) (lt-fails value (2 ^ (8 * width)))))
 
   -- row 2, "1 first": none of the causes of 1, and those of 2
   pub write-2 : (numberOf (writeOf r f offset width value .answer) ≡ 2) ↔ (Aimed offset width value × Inhibited f offset width)
-  write-2 = rw write-number (Iff·trans (code-2 _ _) (Iff·and aimed-exactly inhibited-exactly))
+  write-2 = rw write-outcome (Iff·trans (numbers found held .2) (Iff·and aimed-exactly inhibited-exactly))
 
   -- row 0: every other write is done
   pub write-0 : (numberOf (writeOf r f offset width value .answer) ≡ 0) ↔ (Aimed offset width value × (Inhibited f offset width → ⊥))
-  write-0 = rw write-number (Iff·trans (code-0 _ _) (Iff·and aimed-exactly (fails _ inhibited-exactly)))
+  write-0 = rw write-outcome (Iff·trans (numbers found held .0) (Iff·and aimed-exactly (fails _ inhibited-exactly)))
 
-  -- and stores what it wrote
-  pub write-done : Aimed offset width value → (Inhibited f offset width → ⊥) → writeOf r f offset width value ≡ writtenAs (Done 0) done
-  write-done a n = rw (write-outcome, aimed-exactly .1 a, fails _ inhibited-exactly .1 n)
+  -- the block after it: "write wholly inside ... while Command Inhibit (DAT) is 1" changes nothing
+  pub write-block : Aimed offset width value → writeOf r f offset width value .registers ≡ cond (inhibits (f .dat) offset width) r done
+  write-block a = rw (write-outcome, aimed-exactly .1 a) (go held)
+    where
+      go : (t : Bool) → outcome true t .registers ≡ cond t r done
+      go true = refl
+      go false = refl
 
   -- "All but 0 have value 0 ... and change nothing."
   pub write-refused : numberOf (writeOf r f offset width value .answer) ≢ 0
       → (valueOf (writeOf r f offset width value .answer) ≡ 0) × (writeOf r f offset width value .registers ≡ r)
-  write-refused = rw write-outcome (go found (inhibits (f .dat) offset width))
+  write-refused = rw write-outcome (go found held)
     where
       go : (s t : Bool) → numberOf (outcome s t .answer) ≢ 0 → (valueOf (outcome s t .answer) ≡ 0) × (outcome s t .registers ≡ r)
       go true true h = (refl, refl)

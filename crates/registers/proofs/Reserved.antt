@@ -3,7 +3,7 @@ use Prim.Native.Nat.{ℕ, zero, suc, _+_, _*_, _%_, _<_}
 use native.Mathlib.Nat.{mod-lt}
 use native.Mathlib.Omega.{arith}
 use mathlib.Core.Path.{_≡_, refl, sym, _∙_}
-use mathlib.Core.Bool.{Bool, true, false, cond, _&&_, false≢true}
+use mathlib.Core.Bool.{Bool, true, false, _&&_, false≢true}
 use lib.Bits.{bitAnd, bitOr}
 use lib.Dec.{eqb, ltb, lit<}
 use borrow.Author.Tests.{lt-ltb}
@@ -12,7 +12,7 @@ use Rattle.registers.specs.Place.{targetOf}
 use Rattle.registers.specs.Interrupt.{eventSet, acknowledged, carried, cardBit, errorBit, shownStatus}
 use Rattle.registers.specs.Word.{wholeBits, blockBits, orderBits, hostBits, clockBits, lowBits, inUse, inhibits, modeKept, stays, clockAfter, shownClock}
 use Rattle.registers.specs.Block.{powerOn, withSetup, withControl, withInterrupts, withAdma, withClock, unplugged}
-use Rattle.registers.specs.Reset.{resetBits, resetAll, resetCommand, resetData, resetWith}
+use Rattle.registers.specs.Reset.{resetBits, resetCommand, resetWith}
 use Rattle.registers.specs.Access.{takerShown, takeFrom, takeOf, writeAt, writeOf}
 use Rattle.registers.specs.declared.place.Taker.{Taker}
 use Rattle.registers.specs.declared.place.Taker.the-variants.{System, Block, Argument, Order, Host, Clock, Status, Enabled, Signal, Force, Low, High}
@@ -30,6 +30,7 @@ use Rattle.registers.specs.declared.block.Setup.{Setup}
 use Rattle.registers.specs.declared.block.Control.{Control}
 use Rattle.registers.specs.declared.block.Adma.{Adma}
 use Rattle.registers.specs.declared.block.Registers.{Registers}
+use Rattle.registers.proofs.Tests.{by-test}
 use Rattle.registers.proofs.Sets.{bit-ones}
 use Rattle.registers.proofs.Derived.{Within, zero-within, none-within, within-none, or-within, and-within, less-within, wider-within, put-within, stored-within, plain, Kept, kept-start, kept-acknowledge, kept-enable, kept-signal, kept-force}
 
@@ -79,14 +80,10 @@ settled-within : (card : Bool) (needs one mask : ℕ) (e : Edit) (old : ℕ) →
     → Within (put old (e .lanes) (stays card needs one (bitAnd (e .bits) mask))) mask
 unfolding stays
 settled-within card needs one mask e old h =
-    put-within old (e .lanes) (stays card needs one new) mask h (go (card && eqb (bitAnd new needs) needs))
-  where
-    new : ℕ
-    new = bitAnd (e .bits) mask
-
-    go : (t : Bool) → Within (cond t new (without new one)) mask
-    go true = and-within (e .bits) mask
-    go false = less-within new one mask (and-within (e .bits) mask)
+    let new = bitAnd (e .bits) mask in
+    put-within old (e .lanes) (stays card needs one new) mask h
+    (by-test (λ (x : ℕ). Within x mask) (card && eqb (bitAnd new needs) needs) (λ t. and-within (e .bits) mask)
+    (λ t. less-within new one mask (and-within (e .bits) mask)))
 
 -- ---- the resets
 
@@ -97,14 +94,11 @@ clean-clear event r h = interrupts-clean r _ h (kept-acknowledge (eventSet event
 -- any of the three together
 pub clean-reset : (which : Resets) (r : Registers) → Clean r → Clean (resetWith which r)
 unfolding resetWith
-clean-reset which r h = go (which .all) (which .command) (which .«data»)
-  where
-    go : (a b c : Bool) → Clean (cond a resetAll (cond b (cond c (resetData (resetCommand r)) (resetCommand r)) (cond c (resetData r) r)))
-    go true b c = clean-start
-    go false true true = clean-clear TransferComplete (resetCommand r) (clean-clear CommandComplete r h)
-    go false true false = clean-clear CommandComplete r h
-    go false false true = clean-clear TransferComplete r h
-    go false false false = h
+clean-reset which r h =
+    let c = clean-clear CommandComplete r h in
+    by-test Clean (which .all) (λ a. clean-start) (λ a. by-test Clean (which .command)
+    (λ b. by-test Clean (which .«data») (λ d. clean-clear TransferComplete (resetCommand r) c) (λ d. c))
+    (λ b. by-test Clean (which .«data») (λ d. clean-clear TransferComplete r h) (λ d. h)))
 
 -- ---- every write
 
@@ -181,16 +175,13 @@ shown-status : (level : Bool) (i : Interrupts) → Kept i → Within (shownStatu
 unfolding shownStatus without
 shown-status level i h =
     or-within (bitOr (i .status) (cardBit level i)) (errorBit i) (assigned Status)
-    (or-within (i .status) (cardBit level i) (assigned Status) (wider-within (i .status) plain (assigned Status) refl (h .plain)) (card level))
-    (error (ltb (field 15 0) (i .status)))
+    (or-within (i .status) (cardBit level i) (assigned Status) (wider-within (i .status) plain (assigned Status) refl (h .plain))
+    (by-test P level (λ t. wider-within (bitAnd (i .enabled) (bit 8)) (bit 8) (assigned Status) refl (and-within (i .enabled) (bit 8)))
+    (λ t. zero-within (assigned Status))))
+    (by-test P (ltb (field 15 0) (i .status)) (λ t. none-within (bit 15) (assigned Status) refl) (λ t. zero-within (assigned Status)))
   where
-    card : (t : Bool) → Within (cardBit t i) (assigned Status)
-    card true = wider-within (bitAnd (i .enabled) (bit 8)) (bit 8) (assigned Status) refl (and-within (i .enabled) (bit 8))
-    card false = zero-within (assigned Status)
-
-    error : (t : Bool) → Within (cond t (bit 15) 0) (assigned Status)
-    error true = none-within (bit 15) (assigned Status) refl
-    error false = zero-within (assigned Status)
+    P : ℕ → Type 0
+    P x = Within x (assigned Status)
 
 -- a whole word has no unassigned bit
 whole : (k : ℕ) → k < 32 → bitOf wholeBits k ≡ false → ⊥

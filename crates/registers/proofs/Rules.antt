@@ -1,11 +1,11 @@
 -- What 029h, 02Ch and 00Ch make of a write: power and clock with their conditions, the stable bit, the mode that is kept. Assumes nothing.
 use Prim.Native.Nat.{ℕ, _*_, _/_, _%_}
 use native.Mathlib.Omega.{arith}
-use mathlib.Core.Path.{_≡_, refl, sym, _∙_, ap}
-use mathlib.Core.Bool.{Bool, true, false, not, cond, _&&_, _||_, and-true, and-false, or-false}
+use mathlib.Core.Path.{_≡_, refl, sym, _∙_}
+use mathlib.Core.Bool.{Bool, true, false, not, _&&_, _||_, and-true, and-false, and-assoc, or-false}
 use lib.Bits.{bitAnd}
 use lib.Dec.{eqb, ltb}
-use Rattle.registers.specs.Bits.{bitOf, field, bit, without, put}
+use Rattle.registers.specs.Bits.{bitOf, field, bit, put}
 use Rattle.registers.specs.Word.{orderBits, hostBits, clockBits, inUse, stays, hostAfter, clockAfter}
 use Rattle.registers.specs.Block.{modeOf}
 use Rattle.registers.specs.Access.{shownOf, takeFrom, takeOf}
@@ -29,13 +29,8 @@ stays-written : (card : Bool) (needs one mask : ℕ) (e : Edit) (old k : ℕ)
 stays-written card needs one mask e old k l b m inside =
     simp (bit-put, bit-stays, bit-and, l, b, m, masked, and-true, and-false, or-false)
   where
-    go : (x y z : Bool) → (y && z) ≡ z → ((x && y) && z) ≡ (x && z)
-    go true y z h = h
-    go false y z h = refl
-
     masked : bitAnd (bitAnd (e .bits) mask) needs ≡ bitAnd (e .bits) needs
-    masked = same-bits _ _ (λ j.
-        simp bit-and (go (bitOf (e .bits) j) (bitOf mask j) (bitOf needs j) (sym (bit-and mask needs j) ∙ ap (λ (n : ℕ). bitOf n j) inside)))
+    masked = same-bits _ _ (λ j. let in-it = rw inside at (sym (bit-and mask needs j)) in simp (bit-and, and-assoc, in-it))
 
 -- "029h: ... bit 0 stays 1 only with a card in and bits 3-1 = 111b."
 pub power-written : (card : Bool) (e : Edit) (old : ℕ) → bitOf (e .lanes) 8 ≡ true

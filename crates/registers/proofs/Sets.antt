@@ -3,14 +3,19 @@ use Prim.Native.Nat.{ℕ, zero, suc, _+_, _-_, _*_, _/_, _%_, _^_, _<_, min, max
 use native.Mathlib.Nat.{div-one, pow-suc, mul-comm, div-div-eq-div-mul, div-eq-of-lt}
 use native.Mathlib.Omega.{arith}
 use mathlib.Core.Path.{_≡_, refl, sym, _∙_, ap}
-use mathlib.Core.Logic.{_⊎_, inl, inr}
-use mathlib.Core.Bool.{Bool, false, not, _&&_, _||_, true≢false, false≢true}
+use mathlib.Core.Logic.{_≢_}
+use mathlib.Core.Bool.{Bool, true, false, not, _&&_, _||_, true≢false, false≢true}
 use lib.Arith.{bin-ind}
 use lib.Bits.{bitAnd, bitOr, and-step, or-step, and-le-l, and-mask}
 use lib.Dec.{eqb, ltb, leb·suc-suc, eqb·zero-suc, eqb·suc-zero, eqb·suc-suc}
 use lib.Pow.{pow-pos, shr-shr, shl-shr}
 use borrow.Author.Tests.{eqb-false, lt-ltb, le-ltb}
 use Rattle.registers.specs.Bits.{bitOf, without, put}
+
+-- a bit by computing, where both are numerals
+pub bit-is : (n k : ℕ) → bitOf n k ≡ eqb (n / 2 ^ k % 2) 1
+unfolding bitOf
+bit-is n k = refl
 
 -- bit 0 is the last digit
 pub bit-zero : (n : ℕ) → bitOf n 0 ≡ eqb (n % 2) 1
@@ -39,21 +44,15 @@ module _ (op f : ℕ → ℕ → ℕ) (g : Bool → Bool → Bool)
       let e : op a b / 2 ≡ op (a / 2) (b / 2) = omega arith in
       simp (bit-suc, e) (bitwise-bit (a / 2) (b / 2) k)
 
--- the two digits
-digit-cases : (x : ℕ) → x < 2 → (x ≡ 0) ⊎ (x ≡ 1)
-digit-cases zero h = inl refl
-digit-cases (suc zero) h = inr refl
-digit-cases (suc (suc x)) h = absurd (omega arith)
-
 -- what holds of 0 and 1 in both places holds of any two digits
 by-digits : (P : ℕ → ℕ → Type 0) → P 0 0 → P 0 1 → P 1 0 → P 1 1 → (x y : ℕ) → x < 2 → y < 2 → P x y
-by-digits P p00 p01 p10 p11 x y hx hy = go (digit-cases x hx) (digit-cases y hy)
-  where
-    go : (x ≡ 0) ⊎ (x ≡ 1) → (y ≡ 0) ⊎ (y ≡ 1) → P x y
-    go (inl a) (inl b) = rw (a, b) p00
-    go (inl a) (inr b) = rw (a, b) p01
-    go (inr a) (inl b) = rw (a, b) p10
-    go (inr a) (inr b) = rw (a, b) p11
+by-digits P p00 p01 p10 p11 zero zero hx hy = p00
+by-digits P p00 p01 p10 p11 zero (suc zero) hx hy = p01
+by-digits P p00 p01 p10 p11 zero (suc (suc y)) hx hy = absurd (omega arith)
+by-digits P p00 p01 p10 p11 (suc zero) zero hx hy = p10
+by-digits P p00 p01 p10 p11 (suc zero) (suc zero) hx hy = p11
+by-digits P p00 p01 p10 p11 (suc zero) (suc (suc y)) hx hy = absurd (omega arith)
+by-digits P p00 p01 p10 p11 (suc (suc x)) y hx hy = absurd (omega arith)
 
 -- the bits of both
 pub bit-and : (a b k : ℕ) → bitOf (bitAnd a b) k ≡ (bitOf a k && bitOf b k)
@@ -86,12 +85,23 @@ pub bit-put : (old lanes bits k : ℕ) → bitOf (put old lanes bits) k ≡ (bit
 unfolding put
 bit-put old lanes bits k = rw (bit-or, bit-without)
 
+-- what each operation makes of a bit
+pub ruleset bitwise = (bit-and, bit-or, bit-without, bit-put)
+
 -- 0 is the empty set
 pub bit-none : (k : ℕ) → bitOf 0 k ≡ false
 bit-none zero = bit-zero 0
 bit-none (suc k) = bit-suc 0 k ∙ bit-none k
 
--- and no other number is
+-- no bit stands in a number that is 0
+pub none-at : (n k : ℕ) → n ≡ 0 → bitOf n k ≡ false
+none-at n k e = rw e (bit-none k)
+
+-- so a number in which one stands is not
+pub bit-some : (n k : ℕ) → bitOf n k ≡ true → n ≢ 0
+bit-some n k s z = false≢true (sym (none-at n k z) ∙ s)
+
+-- and one in which none stands is
 pub no-bits : (n : ℕ) → ((k : ℕ) → bitOf n k ≡ false) → n ≡ 0
 no-bits =
     bin-ind (λ (n : ℕ). ((k : ℕ) → bitOf n k ≡ false) → n ≡ 0) (λ h. refl)
@@ -121,29 +131,19 @@ bit-high n k h = rw (div-eq-of-lt h)
 -- 2 ^ j is the set of j alone
 pub bit-power : (j k : ℕ) → bitOf (2 ^ j) k ≡ eqb k j
 bit-power zero zero = bit-zero 1
-bit-power zero (suc k) = bit-suc 1 k ∙ bit-none k ∙ sym (eqb·suc-zero k)
-bit-power (suc j) zero =
-    let p = pow-suc 2 j in
-    let e : 2 ^ suc j % 2 ≡ 0 = omega arith in
-    bit-zero (2 ^ suc j) ∙ ap (λ (n : ℕ). eqb n 1) e ∙ sym (eqb·zero-suc j)
-bit-power (suc j) (suc k) =
-    let p = pow-suc 2 j in
-    let e : 2 ^ suc j / 2 ≡ 2 ^ j = omega arith in
-    bit-suc (2 ^ suc j) k ∙ ap (λ (n : ℕ). bitOf n k) e ∙ bit-power j k ∙ sym (eqb·suc-suc k j)
+bit-power zero (suc k) = simp (bit-suc, bit-none, eqb·suc-zero)
+bit-power (suc j) zero = let e : 2 ^ suc j % 2 ≡ 0 = omega (arith, pow-suc 2 j) in simp (bit-zero, e, eqb·zero-suc)
+bit-power (suc j) (suc k) = let e : 2 ^ suc j / 2 ≡ 2 ^ j = omega (arith, pow-suc 2 j) in simp (bit-suc, e, eqb·suc-suc, bit-power j k)
 
 -- 2 ^ j - 1 is the set of all below j
 pub bit-ones : (j k : ℕ) → bitOf (2 ^ j - 1) k ≡ ltb k j
 bit-ones zero k = bit-none k ∙ sym (le-ltb k 0 (omega arith))
 bit-ones (suc j) zero =
-    let p = pow-suc 2 j in
-    let q = pow-pos j in
-    let e : (2 ^ suc j - 1) % 2 ≡ 1 = omega arith in
-    bit-zero (2 ^ suc j - 1) ∙ ap (λ (n : ℕ). eqb n 1) e ∙ sym (lt-ltb 0 (suc j) (omega arith))
+    let e : (2 ^ suc j - 1) % 2 ≡ 1 = omega (arith, pow-suc 2 j, pow-pos j) in
+    simp (bit-zero, e, lt-ltb 0 (suc j) (omega arith))
 bit-ones (suc j) (suc k) =
-    let p = pow-suc 2 j in
-    let q = pow-pos j in
-    let e : (2 ^ suc j - 1) / 2 ≡ 2 ^ j - 1 = omega arith in
-    bit-suc (2 ^ suc j - 1) k ∙ ap (λ (n : ℕ). bitOf n k) e ∙ bit-ones j k ∙ sym (leb·suc-suc (suc k) j)
+    let e : (2 ^ suc j - 1) / 2 ≡ 2 ^ j - 1 = omega (arith, pow-suc 2 j, pow-pos j) in
+    simp (bit-suc, e, bit-ones j k, leb·suc-suc)
 
 -- a shift down
 pub bit-shr : (n s k : ℕ) → bitOf (n / 2 ^ s) k ≡ bitOf n (s + k)

@@ -12,8 +12,8 @@ use Rattle.registers.specs.Bits.{bitOf}
 use Rattle.registers.specs.Interrupt.{raised, acknowledged, carried, choice, enabling, forcible, forced, shownStatus, counted, lineOf}
 use Rattle.registers.specs.declared.interrupt.Interrupts.{Interrupts}
 use Rattle.registers.specs.declared.place.Edit.{Edit}
-use Rattle.registers.proofs.Sets.{bit-zero, bit-suc, bit-and, bit-or, bit-without, bit-put, bit-none}
-use Rattle.registers.proofs.Tests.{both}
+use Rattle.registers.proofs.Sets.{bit-zero, bit-suc, bit-and, bit-or, bit-without, bit-put, bit-some}
+use Rattle.registers.proofs.Tests.{both, fails}
 
 -- ---- the bits after a step
 
@@ -110,7 +110,7 @@ pub line-up : (level : Bool) (i : Interrupts) (k : ℕ) → Signals level i k �
 unfolding lineOf signalled
 line-up level i k (c, s, e) =
     let b : bitOf (signalled level i) k ≡ true = bit-signalled level i k ∙ rw (s, e, c) in
-    ap not (ne-eqb (signalled level i) 0 (λ z. false≢true (sym (bit-none k) ∙ ap (λ (n : ℕ). bitOf n k) (sym z) ∙ b)))
+    ap not (ne-eqb (signalled level i) 0 (bit-some (signalled level i) k b))
 
 -- and then one does
 pub line-some : (level : Bool) (i : Interrupts) → lineOf level i ≡ true → (k : ℕ) × Signals level i k
@@ -129,8 +129,4 @@ line-exactly level i = (line-some level i, λ (k, s). line-up level i k s)
 
 -- down if none signals
 pub line-down : (level : Bool) (i : Interrupts) → ((k : ℕ) → Signals level i k → ⊥) → lineOf level i ≡ false
-line-down level i h = go (lineOf level i) refl
-  where
-    go : (t : Bool) → lineOf level i ≡ t → t ≡ false
-    go true e = let (k, s) = line-some level i e in absurd (h k s)
-    go false e = refl
+line-down level i h = fails _ (line-exactly level i) .1 (λ (k, s). h k s)

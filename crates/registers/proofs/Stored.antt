@@ -52,10 +52,8 @@ read-back mask lane n value old =
     (go (bitOf old (8 * lane + k)) (ltb k (8 * n)) (bitOf value k) (bitOf mask (8 * lane + k))))
   where
     go : (o t v m : Bool) → ((o && not t || v && m) && t) ≡ (v && (m && t))
-    go o true true m = simp (and-true, and-false)
-    go o true false m = simp (and-true, and-false)
-    go o false true m = simp and-false
-    go o false false m = simp and-false
+    go o true v m = simp (and-true, and-false)
+    go o false v m = simp and-false
 
 -- all of it where every bit is stored
 pub read-back-whole : (lane n value old : ℕ) → lane + n ≤ 4 → value < 2 ^ (8 * n)

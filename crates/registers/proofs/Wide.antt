@@ -1,13 +1,13 @@
 -- An access of several bytes of a word is its byte accesses, the lowest first: proved once over the width. Assumes nothing.
 use Prim.Native.Nat.{ℕ, zero, suc, _+_, _-_, _*_, _/_, _%_, _^_, _≤_, _<_}
-use native.Mathlib.Nat.{add-mul, mul-assoc, add-comm, mul-comm, add-zero, mod-one, mod-lt, mod-eq-of-lt, lt-of-lt-of-le, div-lt-iff-lt-mul}
+use native.Mathlib.Nat.{add-mul, mul-assoc, add-zero, mod-one, mod-lt, mod-eq-of-lt, lt-of-lt-of-le}
 use native.Mathlib.Omega.{arith}
-use mathlib.Core.Path.{_≡_, refl, sym, _∙_, ap, ap₂, subst}
+use mathlib.Core.Path.{_≡_, refl, sym, _∙_, ap, ap₂}
 use mathlib.Core.Logic.{_⊎_, inl, inr}
-use mathlib.Core.Bool.{Bool, true, false, not, _&&_, true≢false}
+use mathlib.Core.Bool.{false}
 use lib.Bits.{bitAnd, bitOr, and-comm, and-shifted, and-block, and-mask, or-shifted-r}
 use lib.Dec.{lit<}
-use lib.Pow.{mod-pow-add, shr-shr, pow-pos, pow-mono, pow-add, shl-lt, split, ones-lt, ones-split}
+use lib.Pow.{mod-pow-add, shr-shr, shr-lt, pow-pos, pow-mono, pow-add, shl-lt, split, ones-lt, ones-split}
 use Rattle.registers.specs.Bits.{bitOf, field, bit, without}
 use Rattle.registers.specs.Place.{onesOf, cutOf, lanesOf, placedOf, editOf}
 use Rattle.registers.specs.Access.{takeOf}
@@ -16,8 +16,10 @@ use Rattle.registers.specs.declared.place.Word.{Word}
 use Rattle.registers.specs.declared.place.Edit.{Edit}
 use Rattle.registers.specs.declared.word.Facts.{Facts}
 use Rattle.registers.specs.declared.block.Registers.{Registers}
-use Rattle.registers.proofs.Sets.{bit-and, bit-without, bit-none, bit-high}
-use Rattle.registers.proofs.Parted.{Where, first, second, neither, Parted, join, Free, Rising, take-join}
+use Rattle.registers.proofs.Tests.{nor}
+use Rattle.registers.proofs.Sets.{bit-and, bit-high, none-at}
+use Rattle.registers.proofs.Parted.{Apart, Free, join, Rising, take-join}
+use Rattle.registers.proofs.Derived.{none-within}
 
 -- ---- a write cut in two at a byte
 
@@ -27,9 +29,9 @@ spanned lane m =
     let e : 8 * (lane + m) ≡ 8 * m + 8 * lane = omega arith in
     ap (λ (n : ℕ). 2 ^ n) e ∙ pow-add 2 (8 * m) (8 * lane)
 
--- m bytes from a lane on end there
-pub below : (lane m b : ℕ) → b < 2 ^ (8 * m) → b * 2 ^ (8 * lane) < 2 ^ (8 * (lane + m))
-below lane m b h = rw (spanned, ← pow-add) (shl-lt (8 * m) (8 * lane) h)
+-- m bytes from a lane on end at byte s
+pub below : (lane m s b : ℕ) → lane + m ≤ s → b < 2 ^ (8 * m) → b * 2 ^ (8 * lane) < 2 ^ (8 * s)
+below lane m s b top h = lt-of-lt-of-le (shl-lt (8 * m) (8 * lane) h) (pow-mono (omega arith))
 
 -- a number above m bytes, moved to a lane, is both parts, each moved to its own
 parts : (lane m a b : ℕ) → b < 2 ^ (8 * m)
@@ -37,7 +39,7 @@ parts : (lane m a b : ℕ) → b < 2 ^ (8 * m)
 parts lane m a b h =
     add-mul (a * 2 ^ (8 * m)) b (2 ^ (8 * lane))
     ∙ ap (λ (n : ℕ). n + b * 2 ^ (8 * lane)) (mul-assoc a (2 ^ (8 * m)) (2 ^ (8 * lane)) ∙ ap (λ (n : ℕ). a * n) (sym (spanned lane m)))
-    ∙ sym (or-shifted-r a (8 * (lane + m)) (b * 2 ^ (8 * lane)) (below lane m b h))
+    ∙ sym (or-shifted-r a (8 * (lane + m)) (b * 2 ^ (8 * lane)) (below lane m (lane + m) b (omega arith) h))
 
 -- the write of m + n bytes is that of the lower m and that of the upper n
 pub edit-split : (lane m n value : ℕ)
@@ -74,65 +76,50 @@ lanes-apart : (lane m n : ℕ) → bitAnd (lanesOf lane m) (lanesOf (lane + m) n
 unfolding lanesOf onesOf
 lanes-apart lane m n =
     and-comm ((2 ^ (8 * m) - 1) * 2 ^ (8 * lane)) ((2 ^ (8 * n) - 1) * 2 ^ (8 * (lane + m)))
-    ∙ and-shifted (2 ^ (8 * n) - 1) (8 * (lane + m)) ((2 ^ (8 * m) - 1) * 2 ^ (8 * lane)) (below lane m (2 ^ (8 * m) - 1) (ones-lt (8 * m)))
+    ∙ and-shifted (2 ^ (8 * n) - 1) (8 * (lane + m)) _ (below lane m (lane + m) (2 ^ (8 * m) - 1) (omega arith) (ones-lt (8 * m)))
 
-where-is : (l m p q : Bool) → (l && m) ≡ false → (p && not l) ≡ false → (q && not m) ≡ false → Where l m p q
-where-is true true p q a b c = absurd (true≢false a)
-where-is true false p true a b c = absurd (true≢false c)
-where-is true false p false a b c = first p
-where-is false true true q a b c = absurd (true≢false b)
-where-is false true false q a b c = second q
-where-is false false true q a b c = absurd (true≢false b)
-where-is false false false true a b c = absurd (true≢false c)
-where-is false false false false a b c = neither
+-- a write that ends below 02Fh sets none of its bits
+pub quiet : (lane n value k : ℕ) → value < 2 ^ (8 * n) → lane + n ≤ 3 → 24 ≤ k → bitOf (placedOf lane value) k ≡ false
+unfolding placedOf
+quiet lane n value k small top high = bit-high (value * 2 ^ (8 * lane)) k (lt-of-lt-of-le (below lane n 3 value top small) (pow-mono high))
 
-none-at : (x k : ℕ) → x ≡ 0 → bitOf x k ≡ false
-none-at x k e = ap (λ (n : ℕ). bitOf n k) e ∙ bit-none k
+apart-at : (x y : ℕ) → bitAnd x y ≡ 0 → Apart x y
+apart-at x y h k = sym (bit-and x y k) ∙ none-at _ k h
 
 module _ (lane m n a b : ℕ) (ha : a < 2 ^ (8 * m)) (hb : b < 2 ^ (8 * n)) where
-  edits-parted : Parted (editOf lane m a) (editOf (lane + m) n b)
-  edits-parted k =
-      where-is (bitOf (lanesOf lane m) k) (bitOf (lanesOf (lane + m) n) k) (bitOf (placedOf lane a) k) (bitOf (placedOf (lane + m) b) k)
-      (sym (bit-and (lanesOf lane m) (lanesOf (lane + m) n) k) ∙ none-at _ k (lanes-apart lane m n))
-      (sym (bit-without (placedOf lane a) (lanesOf lane m) k) ∙ none-at _ k (bits-within lane m a ha))
-      (sym (bit-without (placedOf (lane + m) b) (lanesOf (lane + m) n) k) ∙ none-at _ k (bits-within (lane + m) n b hb))
-
-  -- from byte k on the lower part sets nothing, before it the upper part
-  low-small : (k : ℕ) → lane + m ≤ k → placedOf lane a < 2 ^ (8 * k)
+  -- a number of few bytes is below the upper part
+  high-free : (k c : ℕ) → k ≤ lane + m → c < 2 ^ (8 * k) → Apart (placedOf (lane + m) b) c
   unfolding placedOf
-  low-small k h = lt-of-lt-of-le (below lane m a ha) (pow-mono (omega arith))
+  high-free k c h hc = apart-at (b * 2 ^ (8 * (lane + m))) c (and-shifted b (8 * (lane + m)) c (lt-of-lt-of-le hc (pow-mono (omega arith))))
 
-  high-free : (k c : ℕ) → k ≤ lane + m → c < 2 ^ (8 * k) → bitAnd (placedOf (lane + m) b) c ≡ 0
+  -- one without its lowest byte is above a lower part of one byte
+  low-free : (c : ℕ) → lane + m ≤ 1 → Apart (placedOf lane a) (c * 2 ^ 8)
   unfolding placedOf
-  high-free k c h hc = and-shifted b (8 * (lane + m)) c (lt-of-lt-of-le hc (pow-mono (omega arith)))
+  low-free c h = apart-at (a * 2 ^ (8 * lane)) (c * 2 ^ 8) (and-comm (a * 2 ^ (8 * lane)) (c * 2 ^ 8) ∙ and-shifted c 8 _ (below lane m 1 a h ha))
 
   edits-rising : 0 < m → lane + m ≤ 3 → Rising (editOf lane m a) (editOf (lane + m) n b)
   edits-rising pos top =
       record {
-        parted = edits-parted;
-        quiet = λ j. record { all = high-bit 24 (omega arith) j; command = high-bit 25 (omega arith) j; «data» = high-bit 26 (omega arith) j };
+        parted = λ k.
+            nor _ _ (nor _ _ (apart-at (lanesOf lane m) (lanesOf (lane + m) n) (lanes-apart lane m n) k)
+            (none-within (placedOf lane a) (lanesOf lane m) (bits-within lane m a ha) k))
+            (none-within (placedOf (lane + m) b) (lanesOf (lane + m) n) (bits-within (lane + m) n b hb) k);
+        quiet = λ k. quiet lane m a k ha top;
         clock = (high-free 1 (bit 0) (omega arith) (lit< tt), high-free 1 (bit 2) (omega arith) (lit< tt));
         power = side (lane + m) refl;
       }
     where
-      high-bit : (k : ℕ) → 24 ≤ k → bitOf (placedOf lane a) k ≡ false
-      high-bit k h = bit-high (placedOf lane a) k (lt-of-lt-of-le (low-small 3 top) (pow-mono h))
-
       -- 029h lies in one of the parts
       side : (s : ℕ) → s ≡ lane + m → Free (field 11 9) (bit 8) (placedOf lane a) ⊎ Free (field 11 9) (bit 8) (placedOf (lane + m) b)
       side zero e = absurd (omega arith)
-      side (suc zero) e =
-          let small = low-small 1 (omega arith) in
-          inl (and-comm (placedOf lane a) (field 11 9) ∙ and-shifted 14 8 (placedOf lane a) small, and-comm (placedOf lane a) (bit 8) ∙ and-shifted 1 8 (placedOf lane a) small)
+      side (suc zero) e = inl (low-free 14 (omega arith), low-free 1 (omega arith))
       side (suc (suc s)) e = inr (high-free 2 (field 11 9) (omega arith) (lit< tt), high-free 2 (bit 8) (omega arith) (lit< tt))
 
 -- ---- over the width
 
 -- a value that fits has, without its lowest byte, one byte less
-pub narrower : (n value : ℕ) → value < 2 ^ (8 * suc n) → value / 256 < 2 ^ (8 * n)
-narrower n value h =
-    let e : 8 * suc n ≡ 8 * n + 8 = omega arith in
-    div-lt-iff-lt-mul (lit< tt) .1 (subst (λ (k : ℕ). value < k) (ap (λ (k : ℕ). 2 ^ k) e ∙ pow-add 2 (8 * n) 8) h)
+narrower : (n value : ℕ) → value < 2 ^ (8 * suc n) → value / 256 < 2 ^ (8 * n)
+narrower n value h = let e : 8 * suc n ≡ 8 * n + 8 = omega arith in shr-lt (8 * n) 8 (rw e at h)
 
 -- "Bytes of one access take effect in rising offset": a write to a word is the writes of its bytes, the lowest first
 pub wide-take : (n : ℕ) (w : Word) (lane value : ℕ) (f : Facts) (r : Registers) → lane + suc n ≤ 4 → value < 2 ^ (8 * suc n)
@@ -158,10 +145,5 @@ wide-read (suc n) word lane =
     let x = word / 2 ^ (8 * lane) in
     let e : 8 * suc n ≡ 8 * n + 8 = omega arith in
     let d : 8 * (lane + 1) ≡ 8 * lane + 8 = omega arith in
-    ap (λ (k : ℕ). x % 2 ^ k) e
-    ∙ mod-pow-add x (8 * n) 8
-    ∙ add-comm (x / 256 % 2 ^ (8 * n) * 256) (x % 256)
-    ∙ ap (λ (k : ℕ). x % 256 + k)
-    (mul-comm (x / 256 % 2 ^ (8 * n)) 256
-    ∙ ap (λ (k : ℕ). 256 * (k % 2 ^ (8 * n))) (shr-shr word (8 * lane) 8 ∙ ap (λ (k : ℕ). word / 2 ^ k) (sym d))
-    ∙ ap (λ (k : ℕ). 256 * k) (wide-read n word (lane + 1)))
+    let next : word / 2 ^ (8 * (lane + 1)) ≡ x / 256 = rw d (sym (shr-shr word (8 * lane) 8)) in
+    rw (← wide-read n word (lane + 1), next, e) (omega (arith, mod-pow-add x (8 * n) 8))

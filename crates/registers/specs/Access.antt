@@ -21,7 +21,6 @@ use Rattle.registers.specs.declared.place.Target.{Target}
 use Rattle.registers.specs.declared.place.Target.the-variants as target
 use Rattle.registers.specs.declared.word.Facts.{Facts}
 use Rattle.registers.specs.declared.block.Registers.{Registers}
-use Rattle.registers.specs.declared.block.Written.{Written}
 
 -- ---- what a word shows
 
@@ -40,6 +39,10 @@ takerShown Force level r = 0
 takerShown Low level r = r .adma .low
 takerShown High level r = r .adma .high
 
+-- "040h reads 010832B2h"
+abbrev pub capabilities : ℕ
+capabilities = 0x010832B2
+
 -- a word that ignores them: "040h reads 010832B2h, 044h zero, 048h zero"; "unassigned bits read 0"
 abbrev pub tellerShown : Teller → Facts → Registers → ℕ
 tellerShown First f r = r .reply .first
@@ -47,7 +50,7 @@ tellerShown Second f r = r .reply .second
 tellerShown Third f r = r .reply .third
 tellerShown Fourth f r = r .reply .fourth
 tellerShown Present f r = presentOf f
-tellerShown Ability f r = 0x010832B2
+tellerShown Ability f r = capabilities
 tellerShown Fault f r = r .adma .fault
 tellerShown Version f r = versionOf (lineOf (f .level) (r .interrupts))
 tellerShown Nothing f r = 0
@@ -87,6 +90,12 @@ readAt (Here word lane width) f r = Done (cutOf (shownOf word f r) lane width)
 
 abbrev pub readOf : Registers → Facts → ℕ → ℕ → Answer
 readOf r f offset width = readAt (placeOf offset width) f r
+
+-- the answer to a write that issues no command, and the block after it: the controller's write is this one (`plain-write` in
+-- controller/proofs/Plain)
+pub record Written : Type 0 where
+  pub answer : Answer
+  pub registers : Registers
 
 abbrev pub writtenAs : Answer → Registers → Written
 writtenAs a r = record { answer = a; registers = r }

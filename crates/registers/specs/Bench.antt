@@ -1,4 +1,4 @@
--- Bench values of the block: P1 and P2, and what else document 01 says in numbers of single registers. Assumes nothing: these are definitions.
+-- Bench values of the block: what document 01 says in numbers of single registers (P1 and P2 stand with P3 to P10, in the controller). Assumes nothing: these are definitions.
 use Prim.Native.Nat.{ℕ}
 use mathlib.Core.Bool.{Bool, true, false}
 use mathlib.Core.List.{List, [], _∷_}
@@ -30,10 +30,6 @@ reads f offset width number value = answers (readOf powerOn f offset width) numb
 abbrev pub rereads : Bool → ℕ → ℕ → ℕ → ℕ → Row
 rereads card offset width value shown =
     answers (readOf (writeOf powerOn (quiet card) offset width value .registers) (quiet card) offset width) 0 shown
-
--- P1, P2
-abbrev pub presentRows : List Row
-presentRows = reads (quiet false) 0x024 4 0 0x01FA0000 ∷ reads (quiet true) 0x024 4 0 0x01FF0000 ∷ []
 
 abbrev pub registerRows : List Row
 registerRows =

@@ -1,6 +1,6 @@
 -- Words as sets of bits. Assumes nothing: these are definitions.
 use Prim.Native.Nat.{ℕ, suc, _-_, _/_, _%_, _^_}
-use mathlib.Core.Bool.{Bool, true, false}
+use mathlib.Core.Bool.{Bool}
 use lib.Bits.{bitAnd, bitOr}
 use lib.Dec.{eqb}
 
@@ -23,8 +23,3 @@ without a b = a - bitAnd a b
 -- a word in which the bits of `lanes` are replaced by `bits`
 unfoldable pub put : ℕ → ℕ → ℕ → ℕ
 put old lanes bits = bitOr (without old lanes) bits
-
--- a flag as a number
-unfoldable pub unitOf : Bool → ℕ
-unitOf true = 1
-unitOf false = 0

@@ -21,10 +21,6 @@ noResets = record { all = false; command = false; «data» = false }
 abbrev pub resetsOf : ℕ → ℕ → Edit → Resets
 resetsOf offset width e = cond (touches 0x02F offset width) (resetBits e) noResets
 
--- "Bit 0: all to power-on, except card presence and its interrupt level", which are no part of the block
-abbrev pub resetAll : Registers
-resetAll = powerOn
-
 -- "Bit 1: ... clears Command Complete"
 abbrev pub resetCommand : Registers → Registers
 resetCommand r = withInterrupts r (acknowledged (eventSet CommandComplete) (r .interrupts))
@@ -33,10 +29,11 @@ resetCommand r = withInterrupts r (acknowledged (eventSet CommandComplete) (r .i
 abbrev pub resetData : Registers → Registers
 resetData r = withInterrupts r (acknowledged (eventSet TransferComplete) (r .interrupts))
 
--- several at once: as bit 0 alone, or both others
+-- "Bit 0: all to power-on, except card presence and its interrupt level", which are no part of the block; several at once: as bit 0 alone, or both
+-- others
 unfoldable pub resetWith : Resets → Registers → Registers
 resetWith which r =
-    cond (which .all) resetAll
+    cond (which .all) powerOn
     (cond (which .command)
     (cond (which .«data») (resetData (resetCommand r)) (resetCommand r))
     (cond (which .«data») (resetData r) r))

@@ -3,7 +3,8 @@ use Prim.Native.Nat.{ℕ, _+_, _*_, _%_}
 use mathlib.Core.Bool.{Bool, true, false, cond, _&&_}
 use lib.Bits.{bitAnd, bitOr}
 use lib.Dec.{eqb}
-use Rattle.registers.specs.Bits.{field, bit, without, put, unitOf}
+use Rattle.terms.specs.Flag.{unitOf}
+use Rattle.registers.specs.Bits.{field, bit, without, put}
 use Rattle.registers.specs.Place.{guarded}
 use Rattle.registers.specs.declared.place.Edit.{Edit}
 use Rattle.registers.specs.declared.word.Use.{Use}

@@ -1,23 +1,20 @@
-// The register block by value: power-on, what a read shows, what a write does.
+// The register block by value: power-on, what a read shows, what a write leaves in a word.
 ghost use mathlib.Core.Path.{_≡_};
 ghost use Rattle.registers.specs.Block.{powerOn, blockSize, blockCount, modeOf, commandOf, dmaSelect, busPower, busClock, withSystem, withBlock, withArgument, withOrder, withHost, withClock, withInterrupts, withReply, withFault, withLow, withHigh, unplugged};
-ghost use Rattle.registers.specs.Access.{takerShown, tellerShown, shownOf, takeFrom, takeOf, readOf, writeOf};
+ghost use Rattle.registers.specs.Access.{takerShown, tellerShown, shownOf, takeFrom, takeOf, readOf};
 use crate::bits::less;
 use crate::interrupt::Interrupts;
 use crate::place::Edit;
 use crate::place::Place;
 use crate::place::Taker;
-use crate::place::Target;
 use crate::place::Teller;
 use crate::place::Word;
 use crate::place::cut;
 use crate::place::place_at;
-use crate::place::target_of;
 use crate::reset::reset_bits;
 use crate::word::Facts;
 use crate::word::clock_after;
 use crate::word::host_after;
-use crate::word::is_inhibited;
 use crate::word::is_used;
 use crate::word::order_after;
 use crate::word::present;
@@ -25,6 +22,9 @@ use crate::word::stored_word;
 use crate::word::version;
 use terms::Answer;
 use terms::BlockCount;
+
+// "040h reads 010832B2h".
+const CAPABILITIES: u32 = 0x010832B2;
 
 // 000h to 00Fh.
 #[repr(C)]
@@ -66,12 +66,6 @@ pub struct Registers {
     pub control: Control,
     pub interrupts: Interrupts,
     pub adma: Adma,
-}
-
-// The answer to a write, and the block after it.
-pub struct Written {
-    pub answer: Answer,
-    pub registers: Registers,
 }
 
 impl Registers {
@@ -274,7 +268,7 @@ impl Registers {
             Teller::Third => self.reply.third,
             Teller::Fourth => self.reply.fourth,
             Teller::Present => present(f),
-            Teller::Ability => 0x010832B2,
+            Teller::Ability => CAPABILITIES,
             Teller::Fault => self.adma.fault as u32,
             Teller::Version => version(self.interrupts.line(f.level)),
             Teller::Nothing => 0,
@@ -337,29 +331,5 @@ impl Registers {
             return Answer::NoPlace;
         };
         Answer::Done(cut(self.shown(word, f), lane, bytes))
-    }
-
-    // A write: the answer, and the block after it.
-    pub fn write(self, f: Facts, offset: u32, width: u32, value: u32) -> Written
-        ensures { λ r. ⌜ r ≡ writeOf self f offset width value ⌝ }
-    {
-        let target = target_of(offset, width, value);
-        let Target::At { word, edit } = target else {
-            return Written {
-                answer: Answer::NoPlace,
-                registers: self,
-            };
-        };
-        let dat = f.dat;
-        if is_inhibited(dat, offset, width) {
-            return Written {
-                answer: Answer::DatInhibited,
-                registers: self,
-            };
-        }
-        Written {
-            answer: Answer::Done(0),
-            registers: self.take(word, edit, f),
-        }
     }
 }

@@ -6,7 +6,7 @@ ghost use Rattle.registers.specs.Place.{legal, wordAt, placeOf, editOf, 
 // The access limit: offset + width reaches at most this.
 pub const LIMIT: u32 = 256;
 
-// A 32-bit word that takes writes, named after the register that begins it.
+// A 32-bit word that takes writes; beside each name the registers in it.
 pub enum Taker {
     // 000h
     System,
@@ -133,7 +133,7 @@ pub fn place_at(offset: u32, width: u32) -> Place
     }
 }
 
-// So many bytes of ones. A place has 1 to 4 bytes, and so have the callers of the four functions below.
+// So many bytes of ones. A place has 1 to 4 bytes; this function and those that call it ask for that.
 fn ones(width: u32) -> u32
     requires { ⌜ (0 < width) × (width ≤ 4) ⌝ }
     ensures { λ r. ⌜ r ≡ onesOf width ⌝ }

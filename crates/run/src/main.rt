@@ -26,13 +26,11 @@ fn ride(file: &[u8]) {
     let mut space: [u8; 512] = [0; 512];
     let mut lines: [u8; 9744] = [0; 9744];
     let mem: &mut [u8] = &mut memory;
-    let buffer: &mut [u8] = &mut block;
-    let room: &mut [u8] = &mut space;
     let out: &mut [u8] = &mut lines;
     if LONGEST < file.len() {
         complain(b"run: the file is longer than any run file, 59404 bytes\n");
     }
-    let n = runfile::run::run(file, mem, buffer, room, out);
+    let n = runfile::run::run(file, mem, &mut block, &mut space, out);
     print(&out[..], n);
 }
 
@@ -60,7 +58,9 @@ fn main() {
         return;
     }
     let fd = os::open_read(&path[..length]);
-    if fd < 0 {
+    // a folder opens as a file does; that it cannot be read shows at no byte
+    let mut none = [0u8; 0];
+    if fd < 0 || libc::read(fd, &mut none) < 0 {
         os::fail(&path[..length]);
         return;
     }

@@ -10,15 +10,14 @@ use lib.ListN.{length, take, drop, length-take, length-drop, length-append, drop
 use lib.Seq.{paste-zero, take-length}
 use lib.Dec.{eqb}
 use Rattle.registers.specs.Block.{blockSize}
-use Rattle.terms.specs.Answers.{numberOf, valueOf}
+use Rattle.terms.specs.Answers.{numberOf}
 use Rattle.terms.specs.declared.Answer.{Answer}
 use Rattle.terms.specs.declared.Answer.the-variants.{Done, NoPlace, DatInhibited, CommandInhibited, DatInUse, Unpowered, NotCarried, OutOfTurn, WrongLength, NotYet, NoTransfer, MemoryTooLarge, LimitTooHigh, LineRefused}
-use Rattle.controller.specs.Slot.{lineNow}
 use Rattle.runfile.specs.declared.file.Step.{Step}
-use Rattle.runfile.specs.declared.run.Ridden.{Ridden}
+use Rattle.runfile.specs.declared.run.StepDone.{StepDone}
 use Rattle.runfile.specs.File.{stepSize, stepsBase, cardBase, stepAt}
 use Rattle.runfile.specs.Text.{headText, lineText, putOf}
-use Rattle.runfile.specs.Run.{Ride, Cards, giveOf, rodeOf, rodeText, ridesOf, rodeAll, startOf, allOf, goodRun}
+use Rattle.runfile.specs.Run.{RunWorld, CardBytes, giveOf, rodeOf, rodeText, ridesOf, rodeAll, startOf, allOf, goodRun}
 use Rattle.runfile.proofs.Puts.{put-then, decimal-short, rest-long}
 
 offered-fit : (a : Bool) (used count size : ℕ) → used ≤ count → cond a (used + min size (count - used)) used ≤ count
@@ -26,16 +25,16 @@ offered-fit true used count size h = omega arith
 offered-fit false used count size h = h
 
 -- the card's bytes that are used up stay within their count
-pub used-within : (c : Cards) (s : Step) (r : Ride) → r .riding .used ≤ c .count → rodeOf c s r .1 .riding .used ≤ c .count
+pub used-within : (c : CardBytes) (s : Step) (r : RunWorld) → r .state .used ≤ c .count → rodeOf c s r .1 .state .used ≤ c .count
 unfolding rodeOf
 used-within c s r h =
-    let a = giveOf c (r .riding) (r .buffer) .0 .answer in
+    let a = giveOf c (r .state) (r .buffer) .0 .answer in
     go (eqb (s .kind) 5) (eqb (s .kind) 6) (eqb (s .kind) 10) _ _ _ _
-    (offered-fit (eqb (numberOf a) 0) (r .riding .used) (c .count) (blockSize (r .riding .slot .registers)) h) h h h
+    (offered-fit (eqb (numberOf a) 0) (r .state .used) (c .count) (blockSize (r .state .slot .registers)) h) h h h
   where
-    go : (a b d : Bool) (w x y z : Ridden × Ride)
-        → w .1 .riding .used ≤ c .count → x .1 .riding .used ≤ c .count → y .1 .riding .used ≤ c .count → z .1 .riding .used ≤ c .count
-        → cond a w (cond b x (cond d y z)) .1 .riding .used ≤ c .count
+    go : (a b d : Bool) (w x y z : StepDone × RunWorld)
+        → w .1 .state .used ≤ c .count → x .1 .state .used ≤ c .count → y .1 .state .used ≤ c .count → z .1 .state .used ≤ c .count
+        → cond a w (cond b x (cond d y z)) .1 .state .used ≤ c .count
     go true b d w x y z i j k l = i
     go false true d w x y z i j k l = j
     go false false true w x y z i j k l = k
@@ -47,48 +46,24 @@ unfolding lineText
 line-short number answer value line =
     simp length-append (omega (arith, decimal-short number, decimal-short answer, rest-long value line))
 
-line-text : (i : ℕ) (q : Ridden) → length (rodeText i q) ≤ 19
-line-text i q = line-short i (numberOf (q .answer)) (valueOf (q .answer)) (lineNow (q .riding .slot))
-
--- and so many steps have so many lines
-lines-short : (c : Cards) (base n i : ℕ) (r : Ride) → length (ridesOf c base n i r .0) ≤ 19 * n
-unfolding ridesOf
-lines-short c base zero i r = omega arith
-lines-short c base (suc n) i r =
-    let q = rodeOf c (stepAt (c .file) (base + stepSize * i)) r in
-    let t = rodeText i (q .0) in
-    omega (arith, length-append t (ridesOf c base n (i + 1) (q .1) .0), line-text i (q .0), lines-short c base n (i + 1) (q .1))
-
 -- a step, its line, and the rest
-step-on : (c : Cards) (base n i : ℕ) (r s : Ride) (q : Ridden) (out one : List ℕ) (at next : ℕ) (e : (ℕ × List ℕ) × Ride)
-    → at + 19 * suc n ≤ length out
-    → (q, s) ≡ rodeOf c (stepAt (c .file) (base + stepSize * i)) r
-    → (next, one) ≡ putOf out at (rodeText i q)
-    → e ≡ rodeAll c base n (i + 1) s one next
-    → e ≡ rodeAll c base (suc n) i r out at
-unfolding ridesOf
-step-on c base n i r s q out one at next e h p w z =
-    let l = ridesOf c base n (i + 1) s in
-    let b : at + length (rodeText i q) + length (l .0) ≤ length out = omega (arith, line-text i q, lines-short c base n (i + 1) s) in
-    z
-    ∙ (λ j. (put-then out one (putOf one next (l .0) .1) at next _ (rodeText i q) (l .0) b w refl j, l .1))
-    ∙ (λ j. (putOf out at (rodeText i (p j .0) ++ ridesOf c base n (i + 1) (p j .1) .0), ridesOf c base n (i + 1) (p j .1) .1))
-
-pub rode-on : (c : Cards) (base n i : ℕ) (r s : Ride) (q : Ridden) (out one : List ℕ) (at next : ℕ) (e : (ℕ × List ℕ) × Ride)
-    → 1 ≤ n
-    → at + 19 * n ≤ length out
+pub rode-on : (c : CardBytes) (base n i : ℕ) (r s : RunWorld) (q : StepDone) (out one : List ℕ) (at next : ℕ) (e : (ℕ × List ℕ) × RunWorld) → (n ≡ 0 → ⊥)
     → (q, s) ≡ rodeOf c (stepAt (c .file) (base + stepSize * i)) r
     → (next, one) ≡ putOf out at (rodeText i q)
     → e ≡ rodeAll c base (n - 1) (i + 1) s one next
     → e ≡ rodeAll c base n i r out at
-rode-on c base zero i r s q out one at next e k h p w z = absurd (omega arith)
-rode-on c base (suc n) i r s q out one at next e k h p w z =
+unfolding ridesOf
+rode-on c base zero i r s q out one at next e k p w z = absurd (k refl)
+rode-on c base (suc n) i r s q out one at next e k p w z =
     let d : suc n - 1 ≡ n = omega arith in
-    step-on c base n i r s q out one at next e h p w (rw d at z)
+    let l = ridesOf c base n (i + 1) s in
+    rw d at z
+    ∙ (λ j. (put-then out one (putOf one next (l .0) .1) at next _ (rodeText i q) (l .0) w refl j, l .1))
+    ∙ (λ j. (putOf out at (rodeText i (p j .0) ++ ridesOf c base n (i + 1) (p j .1) .0), ridesOf c base n (i + 1) (p j .1) .1))
 
 -- and no step is none
-pub rode-none : (c : Cards) (base n i : ℕ) (r : Ride) (out : List ℕ) (at : ℕ) → n ≡ 0
-    → _≡_ {A = (ℕ × List ℕ) × Ride} ((at, out), r) (rodeAll c base n i r out at)
+pub rode-none : (c : CardBytes) (base n i : ℕ) (r : RunWorld) (out : List ℕ) (at : ℕ) → n ≡ 0
+    → _≡_ {A = (ℕ × List ℕ) × RunWorld} ((at, out), r) (rodeAll c base n i r out at)
 unfolding ridesOf
 rode-none c base n i r out at e = rw e (λ j. ((sym (add-zero at) j, paste-zero out at [] j), r))
 
@@ -121,18 +96,13 @@ copied file mem memory m e k h =
     rw (e, take-length (take memory (drop 4 file)), n, drop-of-length-le mem {i = memory} (omega arith), append-nil)
 
 -- the head, and then all the steps
-pub head-on : (file : List ℕ) (memory steps card : ℕ) (r : Ride) (buffer room out one : List ℕ) (head : ℕ) (e : (ℕ × List ℕ) × Ride)
-    → 9744 ≤ length out
-    → steps ≤ 512
+pub head-on : (file : List ℕ) (memory steps card : ℕ) (r : RunWorld) (buffer room out one : List ℕ) (head : ℕ) (e : (ℕ × List ℕ) × RunWorld)
     → (head, one) ≡ putOf out 0 (headText steps)
     → r ≡ startOf file memory buffer room
     → e ≡ rodeAll (record { file = file; base = cardBase memory steps; count = card }) (stepsBase memory) steps 0 r one head
     → _≡_ {A = (ℕ × List ℕ) × (List ℕ × List ℕ × List ℕ)} (e .0, (e .1 .memory, e .1 .buffer, e .1 .room)) (goodRun file memory steps card buffer room out)
-head-on file memory steps card r buffer room out one head e h k w o z =
+head-on file memory steps card r buffer room out one head e w o z =
     let q = allOf file memory steps card buffer room in
-    let c : Cards = record { file = file; base = cardBase memory steps; count = card } in
-    let l = lines-short c (stepsBase memory) steps 0 (startOf file memory buffer room) in
-    let b : 0 + length (headText steps) + length (q .0) ≤ length out = omega (arith, head-short steps, l) in
     let y = rw o at z in
     (λ j. (y j .0, (y j .1 .memory, y j .1 .buffer, y j .1 .room)))
-    ∙ (λ j. (put-then out one (putOf one head (q .0) .1) 0 head _ (headText steps) (q .0) b w refl j, (q .1 .memory, q .1 .buffer, q .1 .room)))
+    ∙ (λ j. (put-then out one (putOf one head (q .0) .1) 0 head _ (headText steps) (q .0) w refl j, (q .1 .memory, q .1 .buffer, q .1 .room)))

@@ -1,54 +1,54 @@
--- What `put` leaves of a room, and that two texts put one behind the other are one text put (`put-both`). Assumes nothing.
-use Prim.Native.Nat.{ℕ, _+_, _-_, _/_, _%_, _≤_}
+-- Two texts put one behind the other are one text put (`put-then`), and how long the parts of a line are. Assumes nothing.
+use Prim.Native.Nat.{ℕ, _+_, _/_, _%_, _≤_}
 use native.Mathlib.Omega.{arith}
 use mathlib.Core.Path.{_≡_, refl, _∙_}
 use mathlib.Core.Bool.{Bool, true, false, cond}
 use mathlib.Core.List.{List, [], _∷_, _++_, append-nil, append-assoc}
-use lib.ListN.{length, take, drop, length-drop, length-append, drop-of-length-le}
+use lib.ListN.{length, take, length-append, drop-of-length-le}
 use lib.Seq.{paste, take-all, take-length, drop-drop, take-paste, drop-paste}
-use lib.Dec.{ltb}
+use lib.Dec.{leb, ltb}
+use borrow.Author.Tests.{leb-true, leb-false}
 use Rattle.runfile.specs.Text.{decimal, restText, putOf}
 
--- the rest of a room from a place on, filled from its front and back in its place
-pub put-paste : (r p : List ℕ) (at n : ℕ) → at + n ≤ length r
-    → take at r ++ ((take n p ++ drop n (take (length r - at) (drop at r))) ++ drop (length r - at) (drop at r)) ≡ paste r at p n
-put-paste r p at n h =
-    rw (
-      take-all (length r - at) (drop at r) (omega (arith, length-drop at r)),
-      drop-of-length-le (drop at r) {i = length r - at} (omega (arith, length-drop at r)),
-      append-nil,
-      drop-drop,
-      append-assoc,
-    )
+-- a copy behind the end lengthens the list
+paste-past : (out s : List ℕ) (at : ℕ) → length out ≤ at → paste out at s (length s) ≡ out ++ s
+paste-past out s at h = rw (take-all at out h, take-length s, drop-of-length-le out {i = at + length s} (omega arith), append-nil)
 
 -- a copy and then one behind it: one copy
-paste-both : (out : List ℕ) (at : ℕ) (s t : List ℕ) → at + length s + length t ≤ length out
+paste-both : (out s t : List ℕ) (at : ℕ)
     → paste (paste out at s (length s)) (at + length s) t (length t) ≡ paste out at (s ++ t) (length (s ++ t))
-paste-both out at s t h =
-    let e : at + length (s ++ t) ≡ at + length s + length t = omega (arith, length-append s t) in
-    rw (
-      take-paste out at s (length s) (omega arith) (omega arith),
-      ← drop-drop (length t) (at + length s) (paste out at s (length s)),
-      drop-paste out at s (length s) (omega arith) (omega arith),
-      drop-drop (length t) (at + length s) out,
-      take-length s,
-      take-length t,
-      take-length (s ++ t),
-      e,
-      append-assoc (take at out) s t,
-    )
+paste-both out s t at = go (leb at (length out)) refl
+  where
+    go : (b : Bool) → leb at (length out) ≡ b
+        → paste (paste out at s (length s)) (at + length s) t (length t) ≡ paste out at (s ++ t) (length (s ++ t))
+    go true h =
+        let k : at ≤ length out = leb-true _ _ h in
+        let e : at + length (s ++ t) ≡ at + length s + length t = omega (arith, length-append s t) in
+        rw (
+          take-paste out at s (length s) k (omega arith),
+          ← drop-drop (length t) (at + length s) (paste out at s (length s)),
+          drop-paste out at s (length s) k (omega arith),
+          drop-drop (length t) (at + length s) out,
+          take-length s,
+          take-length t,
+          take-length (s ++ t),
+          e,
+          append-assoc (take at out) s t,
+        )
+    go false h =
+        let k : length out ≤ at = omega (arith, leb-false at (length out) h) in
+        let l : length (out ++ s) ≤ at + length s = omega (arith, length-append out s) in
+        rw (paste-past out s at k, paste-past (out ++ s) t (at + length s) l, paste-past out (s ++ t) at k, append-assoc)
 
 -- two texts, one behind the other, are one text
-pub put-both : (out : List ℕ) (at : ℕ) (s t : List ℕ) → at + length s + length t ≤ length out
-    → putOf (putOf out at s .1) (putOf out at s .0) t ≡ putOf out at (s ++ t)
-put-both out at s t h =
+pub put-then : (out one two : List ℕ) (at m n : ℕ) (s t : List ℕ) → (m, one) ≡ putOf out at s → (n, two) ≡ putOf one m t → (n, two) ≡ putOf out at (s ++ t)
+put-then out one two at m n s t p q =
     let e : at + length s + length t ≡ at + length (s ++ t) = omega (arith, length-append s t) in
-    λ j. (e j, paste-both out at s t h j)
+    q ∙ (λ j. putOf (p j .1) (p j .0) t) ∙ (λ j. (e j, paste-both out s t at j))
 
--- what two calls left, of which the second went on where the first stopped
-pub put-then : (out one two : List ℕ) (at m n : ℕ) (s t : List ℕ) → at + length s + length t ≤ length out
-    → (m, one) ≡ putOf out at s → (n, two) ≡ putOf one m t → (n, two) ≡ putOf out at (s ++ t)
-put-then out one two at m n s t h p q = q ∙ (λ j. putOf (p j .1) (p j .0) t) ∙ put-both out at s t h
+-- and a text ends behind its bytes
+pub put-end : (out one : List ℕ) (at m : ℕ) (s : List ℕ) → (m, one) ≡ putOf out at s → m ≡ at + length s
+put-end out one at m s p j = p j .0
 
 -- a number in decimal has up to three digits
 pub decimal-short : (n : ℕ) → length (decimal n) ≤ 3

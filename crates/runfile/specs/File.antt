@@ -77,8 +77,8 @@ noOffset s = eqb (s .offset) 0
 abbrev pub noDetail : Step → Bool
 noDetail s = eqb (s .detail) 0
 
--- "Kinds: 0 write (detail width, first word value), 1 read (detail width), 2 in, 3 out, 4 response (detail, all four words), 5 given, 6 taken, 7 busy
--- over, 8 data error (detail), 9 level (detail 0 or 1), 10 turn."
+-- "Kinds: 0 write (detail width, first word value), 1 read (detail width), 2 in, 3 out, 4 response (detail, all four words), 5 given, 6 taken
+-- (room 512), 7 busy over, 8 data error (detail), 9 level (detail 0 or 1), 10 turn."
 abbrev pub stepGood : Step → Bool
 stepGood s =
     cond (eqb (s .kind) 0) (noRest s)

@@ -18,15 +18,15 @@ use registers::block::Reply;
 use terms::Answer;
 
 // A run between two steps: the slot, and how many of the card's bytes are used up.
-pub struct Riding {
+pub struct RunState {
     pub slot: Slot,
     pub used: usize,
 }
 
 // The answer to a step, and the run after it.
-pub struct Ridden {
+pub struct StepDone {
     pub answer: Answer,
-    pub riding: Riding,
+    pub state: RunState,
 }
 
 impl Step {
@@ -68,7 +68,7 @@ impl Step {
 }
 
 // The card's bytes within the file: where they begin, and how many they are. The caller has judged the file.
-pub struct Cards {
+pub struct CardBytes {
     pub base: usize,
     pub count: usize,
 }
@@ -86,16 +86,16 @@ fn least(a: usize, b: usize) -> usize
     if a < b { a } else { b }
 }
 
-impl Riding {
+impl RunState {
     // A step that lends nothing is done.
-    fn plain(self, s: Stepped) -> Ridden
+    fn plain(self, s: Stepped) -> StepDone
         ensures { λ r. ⌜ r ≡ plainOf self s ⌝ }
     {
         let answer = s.answer;
         let slot = s.slot;
-        Ridden {
+        StepDone {
             answer,
-            riding: Riding {
+            state: RunState {
                 slot,
                 used: self.used,
             },
@@ -103,7 +103,7 @@ impl Riding {
     }
 
     // Kind 5: the next block-size card bytes, or what is left, used up only where they are taken.
-    fn give(self, file: &[u8], cards: Cards, buffer: &mut [u8]) -> Ridden
+    fn give(self, file: &[u8], cards: CardBytes, buffer: &mut [u8]) -> StepDone
         requires { ⌜ (cards .base + cards .count ≤ length (now file)) × (self .used ≤ cards .count) ⌝ }
         ensures { λ r. ⌜ (r, now (buffer .exit)) ≡ giveOf (record { file = now (file .entry); base = cards .base; count = cards .count }) self (now (buffer .entry)) ⌝ }
     {
@@ -119,23 +119,23 @@ impl Riding {
         let answer = s.answer;
         let next = s.slot;
         if answer.number() == 0 {
-            Ridden {
+            StepDone {
                 answer,
-                riding: Riding {
+                state: RunState {
                     slot: next,
                     used: used + n,
                 },
             }
         } else {
-            Ridden {
+            StepDone {
                 answer,
-                riding: Riding { slot: next, used },
+                state: RunState { slot: next, used },
             }
         }
     }
 
     // Kind 6.
-    fn take(self, buffer: &[u8], room: &mut [u8]) -> Ridden
+    fn take(self, buffer: &[u8], room: &mut [u8]) -> StepDone
         ensures { λ r. ⌜ (r, now (room .exit)) ≡ takeOf self (now (buffer .entry)) (now (room .entry)) ⌝ }
     {
         let slot = self.slot;
@@ -143,7 +143,7 @@ impl Riding {
     }
 
     // Kind 10.
-    fn go(self, buffer: &mut [u8], mem: &mut [u8]) -> Ridden
+    fn go(self, buffer: &mut [u8], mem: &mut [u8]) -> StepDone
         ensures { λ r. ⌜ (r, now (buffer .exit), now (mem .exit)) ≡ goOf self (now (buffer .entry)) (now (mem .entry)) ⌝ }
     {
         let slot = self.slot;
@@ -155,13 +155,13 @@ impl Riding {
         self,
         step: Step,
         file: &[u8],
-        cards: Cards,
+        cards: CardBytes,
         mem: &mut [u8],
         buffer: &mut [u8],
         room: &mut [u8],
-    ) -> Ridden
+    ) -> StepDone
         requires { ⌜ (cards .base + cards .count ≤ length (now file)) × (self .used ≤ cards .count) ⌝ }
-        ensures { λ r. ⌜ (r, record { riding = r .riding; memory = now (mem .exit); buffer = now (buffer .exit); room = now (room .exit) }) ≡ rodeOf (record { file = now (file .entry); base = cards .base; count = cards .count }) step (record { riding = self; memory = now (mem .entry); buffer = now (buffer .entry); room = now (room .entry) }) ⌝ }
+        ensures { λ r. ⌜ (r, record { state = r .state; memory = now (mem .exit); buffer = now (buffer .exit); room = now (room .exit) }) ≡ rodeOf (record { file = now (file .entry); base = cards .base; count = cards .count }) step (record { state = self; memory = now (mem .entry); buffer = now (buffer .entry); room = now (room .entry) }) ⌝ }
     {
         let kind = step.kind;
         let slot = self.slot;
@@ -182,7 +182,7 @@ impl Riding {
     fn rides(
         self,
         file: &[u8],
-        cards: Cards,
+        cards: CardBytes,
         base: usize,
         n: usize,
         i: usize,
@@ -191,26 +191,26 @@ impl Riding {
         room: &mut [u8],
         out: &mut [u8],
         at: usize,
-    ) -> Rode
+    ) -> RunDone
         requires { ⌜ (cards .base + cards .count ≤ length (now file)) × (self .used ≤ cards .count) × (base ≤ 40000) × (i + n ≤ 512) × (at + 19 * n ≤ length (now out)) ⌝ }
-        ensures { λ r. ⌜ ((r .at, now (out .exit)), record { riding = r .riding; memory = now (mem .exit); buffer = now (buffer .exit); room = now (room .exit) }) ≡ rodeAll (record { file = now (file .entry); base = cards .base; count = cards .count }) base n i (record { riding = self; memory = now (mem .entry); buffer = now (buffer .entry); room = now (room .entry) }) (now (out .entry)) at ⌝ }
+        ensures { λ r. ⌜ ((r .at, now (out .exit)), record { state = r .state; memory = now (mem .exit); buffer = now (buffer .exit); room = now (room .exit) }) ≡ rodeAll (record { file = now (file .entry); base = cards .base; count = cards .count }) base n i (record { state = self; memory = now (mem .entry); buffer = now (buffer .entry); room = now (room .entry) }) (now (out .entry)) at ⌝ }
     {
         if n == 0 {
-            return Rode { riding: self, at };
+            return RunDone { state: self, at };
         }
         let step = step_at(file, base + STEP * i);
         let q = self.ride(step, file, cards, mem, buffer, room);
         let answer = q.answer;
-        let riding = q.riding;
+        let state = q.state;
         let next = put_line(
             out,
             at,
             i as u32,
             answer.number() as u32,
             answer.value(),
-            riding.slot.line(),
+            state.slot.line(),
         );
-        riding.rides(
+        state.rides(
             file,
             cards,
             base,
@@ -226,8 +226,8 @@ impl Riding {
 }
 
 // Where the text ends, and the run after it.
-pub struct Rode {
-    pub riding: Riding,
+pub struct RunDone {
+    pub state: RunState,
     pub at: usize,
 }
 
@@ -248,11 +248,11 @@ fn run_good(
     let end = 4 + memory;
     bytes::copy(&file[4..end], mem);
     let head = put_head(out, steps as u32);
-    let start = Riding {
+    let start = RunState {
         slot: Slot::power_on(),
         used: 0,
     };
-    let cards = Cards {
+    let cards = CardBytes {
         base: 12 + memory + STEP * steps,
         count: card,
     };
@@ -271,9 +271,15 @@ fn run_good(
     rode.at
 }
 
-// Runs a file: its whole output goes to the front of `out`. `mem`, `buffer` and `room` are working space; the program lends
-// 32,768, 512 and 512 bytes, and 9,744 for the text.
-pub fn run(file: &[u8], mem: &mut [u8], buffer: &mut [u8], room: &mut [u8], out: &mut [u8]) -> usize
+// Runs a file: its whole output goes to the front of `out`. The rest is working space: memory, a buffer of one block, and
+// "room 512" for blocks taken.
+pub fn run(
+    file: &[u8],
+    mem: &mut [u8],
+    buffer: &mut [u8; 512],
+    room: &mut [u8; 512],
+    out: &mut [u8],
+) -> usize
     requires { ⌜ (32768 ≤ length (now mem)) × (9744 ≤ length (now out)) ⌝ }
     ensures { λ r. ⌜ (r, now (out .exit)) ≡ putOf (now (out .entry)) 0 (outputOf (now (file .entry)) (now (buffer .entry)) (now (room .entry))) ⌝ }
 {

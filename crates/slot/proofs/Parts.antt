@@ -19,7 +19,11 @@ use Rattle.slot.proofs.step.Stepped.Laws as P′
 use Rattle.slot.proofs.step.Answer as R
 use Rattle.slot.proofs.step.Answer.Laws as R′
 
--- the machine values of a record
+-- the machine value of a record
+abbrev pub slot-val : Record → Val
+slot-val = LL.val S.the-type S′.the-laws
+
+-- in a row
 abbrev pub slot-vals : Record → List Val
 slot-vals = LL.vals S.the-type S′.the-laws
 

@@ -24,7 +24,8 @@ use Rattle.controller.specs.declared.slot.Slot.{Slot}
 use Rattle.controller.specs.declared.slot.Stepped as controller
 use Rattle.controller.proofs.Causes.{by-test}
 use Rattle.controller.proofs.Refused.{refused}
-use Rattle.slot.specs.Record.{flagAt, wayAt, commandAt, stageAt, datAt, slotOf, unitAt, kindTag, wayTag, commandPart, stagePart, datPart, recordOf}
+use Rattle.terms.specs.Flag.{unitOf}
+use Rattle.slot.specs.Record.{flagAt, wayAt, commandAt, stageAt, datAt, slotOf, kindTag, wayTag, commandPart, stagePart, datPart, recordOf}
 use Rattle.slot.specs.Step.{answerOf, keeps, spelled}
 use Rattle.slot.specs.Lines.{lineAt, linePart}
 use Rattle.slot.specs.declared.record.Record.{Record}
@@ -33,7 +34,7 @@ use Rattle.slot.specs.Same.{worldOf, recordStep, Agree}
 
 -- ---- the record of a slot
 
-flag-spells : (t : Bool) → flagAt (unitAt t) ≡ t
+flag-spells : (t : Bool) → flagAt (unitOf t) ≡ t
 flag-spells true = refl
 flag-spells false = refl
 

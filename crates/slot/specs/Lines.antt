@@ -9,7 +9,8 @@ use Rattle.table.specs.Survey as table
 use Rattle.table.specs.declared.line.Line.{Line}
 use Rattle.table.specs.declared.survey.Surveyed.{Surveyed}
 use Rattle.table.specs.declared.survey.Booted.{Booted}
-use Rattle.slot.specs.Record.{flagAt, unitAt}
+use Rattle.terms.specs.Flag.{unitOf}
+use Rattle.slot.specs.Record.{flagAt}
 use Rattle.slot.specs.Step.{answerOf}
 use Rattle.slot.specs.declared.step.Answer.{Answer}
 use Rattle.slot.specs.declared.lines.Survey.{Survey}
@@ -33,7 +34,7 @@ surveyOf mem start owed limit = surveyPart (table.surveyOf mem start (bytes owed
 
 -- "says yes exactly on kind 0"
 abbrev pub bootPart : Booted → Boot
-bootPart b = record { number = numberOf (b .answer); yes = unitAt (b .yes) }
+bootPart b = record { number = numberOf (b .answer); yes = unitOf (b .yes) }
 
 abbrev pub bootOf : List ℕ → ℕ → ℕ → Boot
 bootOf mem start owed = bootPart (table.bootOf mem start (bytes owed))
@@ -50,11 +51,11 @@ lineAt p =
 abbrev pub linePart : Line → LinePart
 linePart l =
     record {
-      valid = unitAt (l .flags .valid);
-      end = unitAt (l .flags .end);
-      int = unitAt (l .flags .int);
-      act1 = unitAt (l .flags .act1);
-      act2 = unitAt (l .flags .act2);
+      valid = unitOf (l .flags .valid);
+      end = unitOf (l .flags .end);
+      int = unitOf (l .flags .int);
+      act1 = unitOf (l .flags .act1);
+      act2 = unitOf (l .flags .act2);
       length = l .length .0;
       address = l .address;
     }

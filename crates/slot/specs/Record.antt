@@ -72,9 +72,9 @@ slotOf r =
 
 -- ---- the record that spells a slot: what tells nothing is 0
 
-abbrev pub unitAt : Bool → ℕ
-unitAt true = 1
-unitAt false = 0
+abbrev pub unitOf : Bool → ℕ
+unitOf true = 1
+unitOf false = 0
 
 abbrev pub kindTag : Kind → ℕ
 kindTag Silent = 0
@@ -88,12 +88,12 @@ wayTag Write = 1
 
 abbrev pub commandPart : Command → CommandPart
 commandPart command.Idle = record { tag = 0; kind = 0; crc = 0; index = 0 }
-commandPart (command.Waits w) = record { tag = 1; kind = kindTag (w .kind); crc = unitAt (w .crc); index = unitAt (w .index) }
+commandPart (command.Waits w) = record { tag = 1; kind = kindTag (w .kind); crc = unitOf (w .crc); index = unitOf (w .index) }
 commandPart command.Halted = record { tag = 2; kind = 0; crc = 0; index = 0 }
 
 abbrev pub stagePart : Stage → StagePart
 stagePart Fetching = record { tag = 0; last = 0; int = 0; rest = 0; at = 0 }
-stagePart (Moving rest at last int) = record { tag = 1; last = unitAt last; int = unitAt int; rest = rest .0; at = at }
+stagePart (Moving rest at last int) = record { tag = 1; last = unitOf last; int = unitOf int; rest = rest .0; at = at }
 stagePart Stopped = record { tag = 2; last = 0; int = 0; rest = 0; at = 0 }
 
 -- a DAT side without a running transfer
@@ -116,8 +116,8 @@ transferPart t =
     record {
       tag = 2;
       way = wayTag (t .way);
-      answered = unitAt (t .answered);
-      counted = unitAt (t .counted);
+      answered = unitOf (t .answered);
+      counted = unitOf (t .counted);
       size = t .size;
       left = t .left .0;
       owed = t .owed .0;
@@ -127,7 +127,7 @@ transferPart t =
 
 abbrev pub datPart : Dat → DatPart
 datPart dat.Free = restPart 0 0 0
-datPart (dat.Busy answered) = restPart 1 0 (unitAt answered)
+datPart (dat.Busy answered) = restPart 1 0 (unitOf answered)
 datPart (dat.Runs t) = transferPart t
 datPart dat.Stuck = restPart 3 0 0
 datPart (dat.Halted way) = restPart 4 (wayTag way) 0
@@ -136,8 +136,8 @@ abbrev pub recordOf : Slot → Record
 recordOf s =
     record {
       registers = s .registers;
-      card = unitAt (s .card);
-      level = unitAt (s .level);
+      card = unitOf (s .card);
+      level = unitOf (s .level);
       command = commandPart (s .command);
       dat = datPart (s .dat);
     }

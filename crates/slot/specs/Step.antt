@@ -3,7 +3,7 @@ use Prim.Native.Nat.{ℕ}
 use mathlib.Core.List.{List}
 use mathlib.Core.Bool.{cond}
 use lib.Dec.{eqb}
-use Rattle.terms.specs.Answers.{numberOf, valueOf}
+use Rattle.terms.specs.Answers.{numberOf, valueOf, isDone}
 use Rattle.terms.specs.declared.Answer as terms
 use Rattle.registers.specs.declared.block.Reply.{Reply}
 use Rattle.controller.specs.Slot.{powerOn, lineNow}
@@ -27,7 +27,7 @@ keeps r a = record { after = r; answer = answerOf a }
 
 -- what an entry of the controller gives, spelled out
 abbrev pub spelled : Record → controller.Stepped → Stepped
-spelled r s = cond (eqb (numberOf (s .answer)) 0) (record { after = recordOf (s .slot); answer = answerOf (s .answer) }) (keeps r (s .answer))
+spelled r s = cond (isDone (s .answer)) (record { after = recordOf (s .slot); answer = answerOf (s .answer) }) (keeps r (s .answer))
 
 -- ---- one step each
 

@@ -1,6 +1,6 @@
-// The entries: each takes the record where it is kept, makes one step on it, and stores the record after it if
-// the step is done. They are the exports for
-// C and Rust; the one-block buffer stands beside the record and is lent whole, so it cannot be too short.
+// The entries, exports for C and Rust: each takes the record where it is kept and makes one step on it. A read stores the
+// record that it found; the others store the record after the step, if it is done. The one-block buffer stands beside the
+// record and is lent whole, so it cannot be too short.
 ghost use mathlib.Core.Path.{_≡_};
 ghost use denote.Ref.{now};
 ghost use Rattle.controller.specs.Slot.{powerOn, lineNow};

@@ -1,7 +1,8 @@
 // The record of a slot, and the state of the controller that it spells.
 ghost use mathlib.Core.Path.{_≡_};
 ghost use Rattle.controller.specs.Command.{kindOf};
-ghost use Rattle.slot.specs.Record.{wayAt, commandAt, stageAt, datAt, slotOf, unitAt, kindTag, wayTag, commandPart, stagePart, restPart, transferPart, datPart, recordOf};
+ghost use Rattle.terms.specs.Flag.{unitOf};
+ghost use Rattle.slot.specs.Record.{wayAt, commandAt, stageAt, datAt, slotOf, kindTag, wayTag, commandPart, stagePart, restPart, transferPart, datPart, recordOf};
 use controller::slot::Command;
 use controller::slot::Kind;
 use controller::slot::Slot;
@@ -147,7 +148,7 @@ fn dat_at(p: DatPart) -> Dat
 // ---- the record that spells a state
 
 pub(crate) fn unit_at(t: bool) -> u8
-    ensures { λ r. ⌜ r ≡ unitAt t ⌝ }
+    ensures { λ r. ⌜ r ≡ unitOf t ⌝ }
 {
     if t { 1 } else { 0 }
 }

@@ -2,7 +2,7 @@
 use Prim.Native.Nat.{ℕ, zero, suc, _+_, _-_}
 use native.Mathlib.Numerals.{sub-one}
 use native.Mathlib.Omega.{arith}
-use mathlib.Core.Path.{_≡_, refl, sym, ap, _∙_}
+use mathlib.Core.Path.{_≡_, refl, ap, _∙_}
 use mathlib.Core.List.{List}
 use mathlib.Core.Bool.{Bool, true, false, cond}
 use lib.ListN.{length}
@@ -54,7 +54,9 @@ module _ (rest : ℕ → ByteCount → Trace) (lines : ℕ) where
   unfolding along
   along-told owed named (Fault state next) = count-end lines named (fault state) next
   along-told owed named (Step next last int) = onward-told last next owed named
-  along-told owed named (Data next at n last int) = count-area lines named n at (addRing int (onward rest last next (less owed n))) ∙ onward-told last next (less owed n) (more named n)
+  along-told owed named (Data next at n last int) =
+      count-area lines named n at (addRing int (onward rest last next (less owed n)))
+      ∙ onward-told last next (less owed n) (more named n)
 
 -- the clause of `traceOf` for a line that is allowed, in the code's terms
 pub follow-told : (mem : List ℕ) (n at : ℕ) (owed named : ByteCount) (lines : ℕ) → (n ≡ 0 → ⊥)
@@ -63,4 +65,6 @@ pub follow-told : (mem : List ℕ) (n at : ℕ) (owed named : ByteCount) (lines 
 unfolding traceOf
 follow-told mem zero at owed named lines h = absurd (h refl)
 follow-told mem (suc n) at owed named lines h =
-    rw (sub-one (suc n)) (count-line lines named at (along (λ next left. traceOf mem n next left) owed (fetchOf mem at owed)) ∙ along-told (λ next left. traceOf mem n next left) (lines + 1) owed named (fetchOf mem at owed))
+    rw (sub-one (suc n))
+    (count-line lines named at (along (traceOf mem n) owed (fetchOf mem at owed))
+    ∙ along-told (traceOf mem n) (lines + 1) owed named (fetchOf mem at owed))

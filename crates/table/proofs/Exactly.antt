@@ -24,29 +24,26 @@ use Rattle.table.specs.declared.survey.Surveyed.{Surveyed}
 use Rattle.table.proofs.Readback.{Unfit, fit, Written, taken, kept, written}
 
 module _ (room : List ℕ) (l : Line) where
+  -- the numbers of a line written, each exactly when, and the room after it
+  room-rows : {r : Answer × List ℕ} → Written room l r
+      → ((numberOf (r .0) ≡ 17) ↔ ((length room ≢ lineSize) ⊎ Unfit l))
+      × ((numberOf (r .0) ≡ 0) ⊎ (numberOf (r .0) ≡ 17))
+      × (numberOf (r .0) ≢ 0 → r .1 ≡ room)
+  room-rows (taken e (fit low high even)) =
+      ((λ h. absurd (omega arith), ⊎-elim (omega arith) (⊎-elim (omega arith) (⊎-elim (omega arith) (omega arith)))), inl refl, λ h. absurd (h refl))
+  room-rows (kept w) = ((λ h. w, λ v. refl), inr refl, λ h. refl)
+
   -- row 17
   pub refused-17 : (numberOf (writeOf room l .0) ≡ 17) ↔ ((length room ≢ lineSize) ⊎ (l .length .0 ≡ 0) ⊎ (65536 < l .length .0) ⊎ (l .address % 4 ≢ 0))
-  refused-17 = go (written room l)
-    where
-      go : {r : Answer × List ℕ} → Written room l r → (numberOf (r .0) ≡ 17) ↔ ((length room ≢ lineSize) ⊎ Unfit l)
-      go (taken e (fit low high even)) = (λ h. absurd (omega arith), ⊎-elim (omega arith) (⊎-elim (omega arith) (⊎-elim (omega arith) (omega arith))))
-      go (kept w) = (λ h. w, λ v. refl)
+  refused-17 = room-rows (written room l) .0
 
   -- a line is written or refused with 17: no other number
   pub written-or-17 : (numberOf (writeOf room l .0) ≡ 0) ⊎ (numberOf (writeOf room l .0) ≡ 17)
-  written-or-17 = go (written room l)
-    where
-      go : {r : Answer × List ℕ} → Written room l r → (numberOf (r .0) ≡ 0) ⊎ (numberOf (r .0) ≡ 17)
-      go (taken e f) = inl refl
-      go (kept w) = inr refl
+  written-or-17 = room-rows (written room l) .1
 
   -- "All but 0 ... change nothing"
   pub refused-keeps : numberOf (writeOf room l .0) ≢ 0 → writeOf room l .1 ≡ room
-  refused-keeps = go (written room l)
-    where
-      go : {r : Answer × List ℕ} → Written room l r → numberOf (r .0) ≢ 0 → r .1 ≡ room
-      go (taken e f) h = absurd (h refl)
-      go (kept w) h = refl
+  refused-keeps = room-rows (written room l) .2
 
 module _ (mem : List ℕ) (start : ℕ) (owed : ByteCount) (n : ℕ) where
   -- what becomes of a survey: "11 before 12"
@@ -63,14 +60,17 @@ module _ (mem : List ℕ) (start : ℕ) (owed : ByteCount) (n : ℕ) where
       go false true e f = rw (e, f) (high (ltb-false _ _ e) (ltb-true _ _ f))
       go false false e f = rw (e, f) (done (ltb-false _ _ e) (ltb-false _ _ f))
 
-  -- the numbers of a survey, each exactly when
+  -- the numbers of a survey, each exactly when, and its report
   rows : {s : Surveyed} → Outcome s
       → ((numberOf (s .answer) ≡ 11) ↔ (memoryLimit < length mem))
       × ((numberOf (s .answer) ≡ 12) ↔ ((length mem ≤ memoryLimit) × (4096 < n)))
       × ((numberOf (s .answer) ≡ 0) ↔ ((length mem ≤ memoryLimit) × (n ≤ 4096)))
-  rows (large m) = omega arith
-  rows (high m k) = omega arith
-  rows (done m k) = omega arith
+      × (numberOf (s .answer) ≢ 0 → s .report ≡ reportAs well 0 (bytes 0) 0)
+      × (numberOf (s .answer) ≡ 0
+      → s .report ≡ (let t = surveyTrace mem start owed n in reportAs (t .kind) (length (t .lines)) (total (t .named)) (t .after)))
+  rows (large m) = (omega arith, omega arith, omega arith, λ h. refl, λ h. absurd (omega arith))
+  rows (high m k) = (omega arith, omega arith, omega arith, λ h. refl, λ h. absurd (omega arith))
+  rows (done m k) = (omega arith, omega arith, omega arith, λ h. absurd (h refl), λ h. simp zero-add)
 
   -- row 11 for a survey: "11 before 12"
   pub survey-11 : (numberOf (surveyOf mem start owed n .answer) ≡ 11) ↔ (memoryLimit < length mem)
@@ -86,24 +86,14 @@ module _ (mem : List ℕ) (start : ℕ) (owed : ByteCount) (n : ℕ) where
 
   -- "(each field of a survey too)": a refused survey reports zeros
   pub survey-zeros : numberOf (surveyOf mem start owed n .answer) ≢ 0 → surveyOf mem start owed n .report ≡ reportAs well 0 (bytes 0) 0
-  survey-zeros = go outcome
-    where
-      go : {s : Surveyed} → Outcome s → numberOf (s .answer) ≢ 0 → s .report ≡ reportAs well 0 (bytes 0) 0
-      go (large m) h = refl
-      go (high m k) h = refl
-      go (done m k) h = absurd (h refl)
+  survey-zeros = rows outcome .3
 
   -- the public counts are what the trace lists
   pub survey-counts : numberOf (surveyOf mem start owed n .answer) ≡ 0
       → surveyOf mem start owed n .report
-      ≡ (let t = surveyTrace mem start owed n in record { kind = kindOf (t .kind); state = stateOf (t .kind); lines = length (t .lines); bytes = total (t .named); after = t .after })
-  survey-counts = go outcome
-    where
-      go : {s : Surveyed} → Outcome s → numberOf (s .answer) ≡ 0
-          → s .report ≡ (let t = surveyTrace mem start owed n in reportAs (t .kind) (length (t .lines)) (total (t .named)) (t .after))
-      go (large m) h = absurd (omega arith)
-      go (high m k) h = absurd (omega arith)
-      go (done m k) h = simp zero-add
+      ≡ (let t = surveyTrace mem start owed n in
+      record { kind = kindOf (t .kind); state = stateOf (t .kind); lines = length (t .lines); bytes = total (t .named); after = t .after })
+  survey-counts = rows outcome .4
 
 -- does the kind say yes?
 kind-yes : (k : Kind) → (eqb (kindOf k) 0 ≡ true) ↔ (k ≡ well)

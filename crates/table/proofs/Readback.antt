@@ -14,7 +14,8 @@ use Rattle.terms.specs.Answers.{numberOf}
 use Rattle.terms.specs.declared.Answer.{Answer}
 use Rattle.terms.specs.declared.Answer.the-variants.{Done, LineRefused}
 use Rattle.table.specs.Line.{lineSize, byteOf, lengthOf, addressOf, flagsOf, readOf}
-use Rattle.table.specs.Written.{unitOf, flagByte, lineOf, writable, writeOf}
+use Rattle.terms.specs.Flag.{unitOf}
+use Rattle.table.specs.Written.{flagByte, lineOf, writable, writeOf}
 use Rattle.table.specs.declared.line.Line.{Line}
 
 -- "length 0 or over 65,536", or "address not a multiple of 4"
@@ -98,11 +99,7 @@ module _ (l : Line) where
 pub read-back : (l : Line) → writable l ≡ true → l .address < 2 ^ 32 → readOf (lineOf l) ≡ l
 read-back l w = fit-back l (rw w at (fits l))
 
--- what is written is always eight bytes
-pub line-length : (l : Line) → length (lineOf l) ≡ lineSize
-line-length l = refl
-
--- and a line that was written reads back from the room
+-- a line that was written reads back from the room
 pub write-read : (room : List ℕ) (l : Line) → l .address < 2 ^ 32 → numberOf (writeOf room l .0) ≡ 0 → readOf (writeOf room l .1) ≡ l
 write-read room l small = go (written room l)
   where

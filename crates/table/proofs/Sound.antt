@@ -141,18 +141,18 @@ trace-agrees mem (suc n) at owed =
     let a = line-agrees (length mem) (traceOf mem n) (dataOfTable mem n) (trace-agrees mem n) (lineBytes mem at) at owed (flagsOf (lineBytes mem at) .valid) in
     record { fits = a .fits; goes = a .goes }
 
--- a table that is sound for the bytes owed goes well
-pub sound-well : (mem : List ℕ) (n at : ℕ) (owed : ByteCount) (named : List Area) → Sound mem n at owed named → traceOf mem n at owed .kind ≡ well
-sound-well mem n at owed named s = trace-agrees mem n at owed .goes named (s .there, s .inside, s .adds)
+module _ (mem : List ℕ) (n at : ℕ) (owed : ByteCount) where
+  -- a table that goes well is sound for the bytes owed, and the trace names its data
+  pub well-sound : traceOf mem n at owed .kind ≡ well → Sound mem n at owed (traceOf mem n at owed .named)
+  well-sound w = let f = trace-agrees mem n at owed .fits w in record { there = f .0; inside = f .1; adds = f .2 }
 
--- a table that goes well is sound for the bytes owed, and the trace names its data
-pub well-sound : (mem : List ℕ) (n at : ℕ) (owed : ByteCount) → traceOf mem n at owed .kind ≡ well → Sound mem n at owed (traceOf mem n at owed .named)
-well-sound mem n at owed w = let f = trace-agrees mem n at owed .fits w in record { there = f .0; inside = f .1; adds = f .2 }
+  -- "well", stated on the table itself
+  pub well-exactly : (traceOf mem n at owed .kind ≡ well) ↔ ((named : List Area) × Sound mem n at owed named)
+  well-exactly = (
+    λ w. (traceOf mem n at owed .named, well-sound w),
+    λ s. trace-agrees mem n at owed .goes (s .0) (s .1 .there, s .1 .inside, s .1 .adds),
+  )
 
--- "well", stated on the table itself
-pub well-exactly : (mem : List ℕ) (n at : ℕ) (owed : ByteCount) → (traceOf mem n at owed .kind ≡ well) ↔ ((named : List Area) × Sound mem n at owed named)
-well-exactly mem n at owed = ((λ w. (traceOf mem n at owed .named, well-sound mem n at owed w)), (λ s. sound-well mem n at owed (s .0) (s .1)))
-
--- the data of a sound table is one list
-pub sound-one : (mem : List ℕ) (n at : ℕ) (owed : ByteCount) (named other : List Area) → Sound mem n at owed named → Sound mem n at owed other → named ≡ other
-sound-one mem n at owed named other s o = cc
+  -- the data of a sound table is one list
+  pub sound-one : (named other : List Area) → Sound mem n at owed named → Sound mem n at owed other → named ≡ other
+  sound-one named other s o = cc

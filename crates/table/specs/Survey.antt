@@ -5,7 +5,7 @@ use mathlib.Core.Bool.{Bool, false, cond}
 use lib.ListN.{length}
 use lib.Dec.{ltb, eqb}
 use Rattle.terms.specs.Counts.{bytes, more}
-use Rattle.terms.specs.Answers.{numberOf}
+use Rattle.terms.specs.Answers.{isDone}
 use Rattle.terms.specs.declared.Answer.{Answer}
 use Rattle.terms.specs.declared.Answer.the-variants.{Done, MemoryTooLarge, LimitTooHigh}
 use Rattle.terms.specs.declared.ByteCount.{ByteCount}
@@ -49,8 +49,11 @@ abbrev pub allowedOf : ℕ → ℕ
 allowedOf n = cond (eqb n 0) defaultLimit n
 
 -- "survey limit over 4,096"
+abbrev pub linesMost : ℕ
+linesMost = 4096
+
 abbrev pub limitOver : ℕ → Bool
-limitOver n = ltb 4096 n
+limitOver n = ltb linesMost n
 
 -- the trace that a survey reports: "a start (low two bits as 0)"
 abbrev pub surveyTrace : List ℕ → ℕ → ByteCount → ℕ → Trace
@@ -68,7 +71,7 @@ surveyOf mem start owed n =
 
 -- does a survey say that the table goes well?
 abbrev pub saysYes : Surveyed → Bool
-saysYes s = cond (eqb (numberOf (s .answer)) 0) (eqb (s .report .kind) 0) false
+saysYes s = cond (isDone (s .answer)) (eqb (s .report .kind) 0) false
 
 -- "The boot check ... surveys with limit 0 and says yes exactly on kind 0; 11 is passed on with no."
 abbrev pub bootOf : List ℕ → ℕ → ByteCount → Booted

@@ -1,19 +1,15 @@
 -- "A line is also written, from its five flags, length and address." Assumes nothing: these are definitions.
 use Prim.Native.Nat.{ℕ, _+_, _*_, _/_, _%_}
 use mathlib.Core.List.{List, [], _∷_}
-use mathlib.Core.Bool.{Bool, true, false, cond, _&&_}
+use mathlib.Core.Bool.{Bool, cond, _&&_}
 use lib.ListN.{length}
 use lib.Dec.{leb, eqb}
+use Rattle.terms.specs.Flag.{unitOf}
 use Rattle.terms.specs.declared.Answer.{Answer}
 use Rattle.terms.specs.declared.Answer.the-variants.{Done, LineRefused}
 use Rattle.table.specs.Line.{lineSize}
 use Rattle.table.specs.declared.line.Flags.{Flags}
 use Rattle.table.specs.declared.line.Line.{Line}
-
--- a flag as a number
-abbrev pub unitOf : Bool → ℕ
-unitOf true = 1
-unitOf false = 0
 
 -- "Byte 0: Valid 1, End 2, Int 4, Act1 10h, Act2 20h; other bits and byte 1 ... written as 0."
 abbrev pub flagByte : Flags → ℕ

@@ -3,7 +3,7 @@ ghost use mathlib.Core.Path.{_≡_};
 ghost use Prim.Native.Nat.{_≤_};
 ghost use lib.ListN.{length};
 ghost use Rattle.table.specs.Memory.{memoryLimit};
-ghost use Rattle.table.specs.Fetch.{stepOf, dataOf, tranOf, fetchOf};
+ghost use Rattle.table.specs.Fetch.{stepOnOf, dataOf, tranOf, fetchOf};
 use crate::line::Act;
 use crate::line::SIZE;
 use crate::line::act_of;
@@ -47,7 +47,7 @@ pub enum Fetched {
 }
 
 fn step(line: &[u8], next: u32) -> Fetched
-    ensures { λ r. ⌜ r ≡ stepOf (now (line .entry)) next ⌝ }
+    ensures { λ r. ⌜ r ≡ stepOnOf (now (line .entry)) next ⌝ }
 {
     let flags = flags_of(line);
     Fetched::Step {
@@ -99,10 +99,11 @@ pub fn fetch(mem: &[u8], at: u32, owed: ByteCount) -> Fetched
     let flags = flags_of(line);
     if flags.valid {
         let act = act_of(flags);
+        let next = at + SIZE;
         match act {
-            Act::Tran => tran(line, at + SIZE, mem.len(), owed),
+            Act::Tran => tran(line, next, mem.len(), owed),
             Act::Link => step(line, address_of(line)),
-            Act::Other => step(line, at + SIZE),
+            Act::Other => step(line, next),
         }
     } else {
         Fetched::Fault {

@@ -4,7 +4,7 @@ ghost use Prim.Native.Nat.{_+_, _<_, _≤_};
 ghost use lib.ListN.{length};
 ghost use Rattle.table.specs.Memory.{memoryLimit};
 ghost use Rattle.table.specs.Trace.{finishKind, traceOf};
-ghost use Rattle.table.specs.Survey.{reportWith, reportAs, reportFrom, allowedOf, refusedAs, surveyOf, bootOf};
+ghost use Rattle.table.specs.Survey.{reportWith, reportAs, reportFrom, allowedOf, linesMost, refusedAs, surveyOf, bootOf};
 use crate::fetch::Fetched;
 use crate::fetch::MISMATCH;
 use crate::fetch::STOP;
@@ -71,7 +71,7 @@ fn follow(
     lines: u32,
     named: ByteCount,
 ) -> Report
-    requires { ⌜ (length (now mem) ≤ memoryLimit) × (lines + allowed ≤ 4096) × (named .0 + owed .0 < 4294967296) ⌝ }
+    requires { ⌜ (length (now mem) ≤ memoryLimit) × (lines + allowed ≤ linesMost) × (named .0 + owed .0 < 4294967296) ⌝ }
     ensures { λ r. ⌜ r ≡ reportFrom lines named (traceOf (now (mem .entry)) allowed at owed) ⌝ }
 {
     if allowed == 0 {
@@ -107,8 +107,8 @@ fn follow(
 
 // The lines that a limit allows.
 fn lines_allowed(limit: u32) -> u32
-    requires { ⌜ limit ≤ 4096 ⌝ }
-    ensures { λ r. ⌜ (r ≡ allowedOf limit) × (r ≤ 4096) ⌝ }
+    requires { ⌜ limit ≤ linesMost ⌝ }
+    ensures { λ r. ⌜ (r ≡ allowedOf limit) × (r ≤ linesMost) ⌝ }
 {
     if limit == 0 { DEFAULT } else { limit }
 }

@@ -2,7 +2,8 @@
 ghost use mathlib.Core.Path.{_≡_};
 ghost use Prim.Native.Nat.{_≤_};
 ghost use lib.ListN.{length};
-ghost use Rattle.table.specs.Written.{unitOf, flagByte, lineOf, writable, writeOf};
+ghost use Rattle.terms.specs.Flag.{unitOf};
+ghost use Rattle.table.specs.Written.{flagByte, lineOf, writable, writeOf};
 use crate::line::Flags;
 use crate::line::Line;
 use crate::line::SIZE;

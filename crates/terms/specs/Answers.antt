@@ -1,6 +1,8 @@
 -- "An answer is a number and a value." Each row of the table has one name, and here are its number and its value.
 -- Assumes nothing: these are definitions.
 use Prim.Native.Nat.{ℕ}
+use mathlib.Core.Bool.{Bool}
+use lib.Dec.{eqb}
 use Rattle.terms.specs.declared.Answer.{Answer}
 use Rattle.terms.specs.declared.Answer.the-variants.{Done, NoPlace, DatInhibited, CommandInhibited, DatInUse, Unpowered, NotCarried, OutOfTurn, WrongLength, NotYet, NoTransfer, MemoryTooLarge, LimitTooHigh, LineRefused}
 
@@ -20,6 +22,10 @@ numberOf NoTransfer = 10
 numberOf MemoryTooLarge = 11
 numberOf LimitTooHigh = 12
 numberOf LineRefused = 17
+
+-- 0: "done"
+abbrev pub isDone : Answer → Bool
+isDone a = eqb (numberOf a) 0
 
 -- "All but 0 have value 0"
 abbrev pub valueOf : Answer → ℕ

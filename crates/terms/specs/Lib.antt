@@ -1,3 +1,4 @@
 pub mod Counts
+pub mod Flag
 pub mod Answers
 pub mod Bench

@@ -4,6 +4,7 @@ use crate::say::say;
 use crate::say::say_answer;
 use crate::say::say_number;
 use crate::say::say_word;
+use crate::tables::memory;
 use controller::slot::Slot;
 use controller::slot::Stepped;
 use registers::block::Reply;
@@ -66,32 +67,7 @@ fn taken_row(room: &[u8]) {
 
 // Steps 9 to 16: Present State, the response, two turns, the block, and its acknowledgements.
 pub(crate) fn ride() {
-    let mut table: [u8; 24] = [
-        0x23,
-        0,
-        8,
-        0,
-        0x10,
-        0,
-        0,
-        0,
-        0,
-        0,
-        0,
-        0,
-        0,
-        0,
-        0,
-        0,
-        0x11,
-        0x22,
-        0x33,
-        0x44,
-        0x55,
-        0x66,
-        0x77,
-        0x88,
-    ];
+    let mut table = memory(0x23, 0x10);
     let mut block: [u8; 512] = [0; 512];
     let mut space: [u8; 512] = [0; 512];
     let mem: &mut [u8] = &mut table;

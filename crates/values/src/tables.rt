@@ -28,7 +28,7 @@ fn surveyed(s: Surveyed) {
 }
 
 // The worked example's memory, with another first byte or line address.
-fn memory(first: u8, address: u8) -> [u8; 24] {
+pub(crate) fn memory(first: u8, address: u8) -> [u8; 24] {
     [
         first,
         0,

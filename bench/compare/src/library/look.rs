@@ -1,6 +1,7 @@
 //! What is held against each other after a step: everything that can be seen of both sides.
 
 use super::run::Run;
+use super::spelling::is_plain;
 use reference::{Machine, Seen};
 use sdhc::{Record, Slot, BLOCK};
 
@@ -30,6 +31,17 @@ impl Before {
         match *slot.buffer() == self.buffer {
             true => Ok(()),
             false => Err("the buffer is changed by a step that was refused".to_string()),
+        }
+    }
+
+    /// A record that a step has changed is spelled as the library does it.
+    pub fn is_spelled(&self, slot: &Slot) -> Result<(), String> {
+        match *slot.record() == self.record || is_plain(slot.record()) {
+            true => Ok(()),
+            false => Err(format!(
+                "the record tells what its tags do not speak of: {:?}",
+                slot.record()
+            )),
         }
     }
 
@@ -81,6 +93,7 @@ pub fn at(run: &mut Run, machine: &Machine, seen: &Seen, before: &Before) -> Res
     registers(&mut run.slot, machine)?;
     same_bytes("memory", &run.memory, machine.memory())?;
     before.is_kept_around(&run.slot, seen.value)?;
+    before.is_spelled(&run.slot)?;
     let (first, end) = held(run.slot.record());
     same_bytes(
         "the buffer",

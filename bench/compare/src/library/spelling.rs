@@ -1,5 +1,6 @@
 //! Other records that spell the same state: a flag is up by any number but 0, the last tag of a
-//! kind stands for all above it, and what a tag does not speak of may be anything.
+//! kind stands for all above it, and what a tag does not speak of may be anything. The library
+//! itself spells a state in one way, in which what a tag does not speak of is 0.
 
 use crate::chance::Chance;
 use sdhc::{Command, Dat, Record, Stage};
@@ -12,6 +13,52 @@ pub fn respelled(chance: &mut Chance, record: &Record) -> Record {
         level: flag(chance, record.level),
         command: command(chance, record.command),
         dat: dat(chance, record.dat),
+    }
+}
+
+/// Whether a record is as the library spells it: what its tags do not speak of is 0.
+pub fn is_plain(record: &Record) -> bool {
+    let (command, dat) = (&record.command, &record.dat);
+    let silent = (command.kind, command.crc, command.index) == (0, 0, 0);
+    (command.tag == 1 || silent) && *dat == spoken(dat)
+}
+
+// What the tag of the DAT side speaks of, and 0 for all else.
+fn spoken(dat: &Dat) -> Dat {
+    let none = Stage {
+        tag: 0,
+        last: 0,
+        int: 0,
+        rest: 0,
+        at: 0,
+    };
+    let rest = Dat {
+        tag: dat.tag,
+        way: 0,
+        answered: 0,
+        counted: 0,
+        size: 0,
+        left: 0,
+        owed: 0,
+        held: 0,
+        stage: none,
+    };
+    let tag = dat.stage.tag;
+    match (dat.tag, tag) {
+        (0 | 3, _) => rest,
+        (1, _) => Dat {
+            answered: dat.answered,
+            ..rest
+        },
+        (2, 1) => *dat,
+        (2, _) => Dat {
+            stage: Stage { tag, ..none },
+            ..*dat
+        },
+        _ => Dat {
+            way: dat.way,
+            ..rest
+        },
     }
 }
 
@@ -113,6 +160,20 @@ fn stage(chance: &mut Chance, stage: Stage) -> Stage {
 mod tests {
     use super::*;
     use sdhc::Slot;
+
+    #[test]
+    fn what_a_tag_does_not_speak_of_is_0() {
+        let mut record = *Slot::power_on().record();
+        assert!(is_plain(&record));
+        record.dat.answered = 1;
+        assert!(!is_plain(&record));
+        record.dat.tag = 1;
+        assert!(is_plain(&record));
+        record.command.crc = 1;
+        assert!(!is_plain(&record));
+        record.command.tag = 1;
+        assert!(is_plain(&record));
+    }
 
     #[test]
     fn another_spelling_reads_the_same() {

@@ -2,9 +2,8 @@
 -- Assumes nothing.
 use mathlib.Core.Path.{_≡_}
 use borrow.Author.Needs.{needs}
-use Rattle.registers.specs.declared.block.Reply.{Reply}
 use Rattle.controller.specs.Card.{replyAfter}
-use Rattle.controller.specs.declared.slot.Kind.{Kind}
+use Rattle.controller.proofs.Names.{Kind, Reply}
 use Rattle.controller.proofs.card.reply_after.Statement.{statement}
 use Rattle.controller.proofs.card.reply_after.Tie as tie
 

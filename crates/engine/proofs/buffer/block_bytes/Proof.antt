@@ -7,14 +7,5 @@ use native.Mathlib.Omega.{arith}
 use mathlib.Core.Path.{ap}
 use Rattle.terms.specs.Counts.{bytes}
 
-cast-t7 : tie.Need-cast-t7
-cast-t7 c = search needs
-
-returns : tie.Need-returns
-returns c = ap bytes (omega arith)
-
-returns-2 : tie.Need-returns-2
-returns-2 c = ap bytes (omega arith)
-
 pub block-bytes-spec : {M : Type 1} → statement M
-block-bytes-spec = tie.close (tie.spec cast-t7 returns returns-2)
+block-bytes-spec = tie.close (tie.spec (λ c. search needs) (λ c. ap bytes (omega arith)) (λ c. ap bytes (omega arith)))

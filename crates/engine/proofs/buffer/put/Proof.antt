@@ -7,27 +7,12 @@ use lib.ListN.{length}
 use denote.Ref.{now}
 use Rattle.engine.proofs.Lent.{put-paste}
 
-sub-copy : tie.Need-sub-copy
-sub-copy c = search needs
-
-part-copy-start : tie.Need-part-copy-start
-part-copy-start c = search needs
-
-part-copy-end : tie.Need-part-copy-end
-part-copy-end c = search needs
-
-copy-requires : tie.Need-copy-requires
-copy-requires c κs = search needs
-
-same-length : tie.Need-same-length
-same-length c = search needs
-
-returns : tie.Need-returns
-returns c =
-    let s = c .before .before .before .before .before .before in
-    let p = now (s .args .part) in
-    rw (c .before .before .copy .ensures .1) (put-paste (now (s .args .room)) p (s .args .at) (length p) (s .pre))
-
 pub put-spec : {M : Type 1} → statement M
 put-spec =
-    tie.close (tie.spec sub-copy part-copy-start part-copy-end copy-requires same-length returns)
+    tie.close
+    (tie.spec
+    (λ c. search needs) (λ c. search needs) (λ c. search needs) (λ c κs. search needs) (λ c. search needs)
+    (λ c.
+    let s = c .before .before .before .before .before .before in
+    let p = now (s .args .part) in
+    rw (c .before .before .copy .ensures .1) (put-paste (now (s .args .room)) p (s .args .at) (length p) (s .pre))))

@@ -1,20 +1,12 @@
 -- `turn::onward` meets its contract: the test says which clause of `further` holds.
 -- Assumes nothing.
-use borrow.Author.Needs.{needs}
+use native.Mathlib.Nat.{suc-pred-eq-of-ne-zero}
+use Rattle.engine.specs.Turn.{further}
 use Rattle.engine.proofs.turn.onward.Statement.{statement}
 use Rattle.engine.proofs.turn.onward.Tie as tie
-use Rattle.engine.proofs.Clauses.{further-rest}
-use Rattle.engine.specs.Turn.{further}
-
-settled-requires : tie.Need-settled-requires
-settled-requires c κs = search needs
-
-returns : tie.Need-returns
-unfolding further
-returns c = rw (c .before .if1 .taken) (c .settled .ensures)
-
-returns-2 : tie.Need-returns-2
-returns-2 c = further-rest _ _ _ _ _ _ _ (c .if1 .left)
 
 pub onward-spec : {M : Type 1} → statement M
-onward-spec = tie.close (tie.spec settled-requires returns returns-2)
+unfolding further
+onward-spec =
+    tie.close
+    (tie.spec (λ c κs. tt) (λ c. rw (c .before .if1 .taken) (c .settled .ensures)) (λ c. rw (← suc-pred-eq-of-ne-zero (c .if1 .left))))

@@ -8,8 +8,8 @@ use borrow.Author.Needs.{needs}
 use Rattle.registers.proofs.interrupt.event_set.Statement.{statement}
 use Rattle.registers.proofs.interrupt.event_set.Tie as tie
 
-returns : tie.Need-returns
-returns c = rw (← c .event-index .ensures .0) (shl-exact 1 _ 32 (omega arith) (omega arith) ∙ one-mul _)
-
 pub event-set-spec : {M : Type 1} → statement M
-event-set-spec = tie.close (tie.spec (λ c κs. tt) (λ c. search needs) returns)
+event-set-spec =
+    tie.close
+    (tie.spec (λ c κs. tt) (λ c. search needs)
+    (λ c. rw (← c .event-index .ensures .0) (shl-exact 1 _ 32 (omega arith) (omega arith) ∙ one-mul _)))

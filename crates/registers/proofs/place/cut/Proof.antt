@@ -7,9 +7,9 @@ use Rattle.registers.specs.Place.{cutOf, onesOf}
 use Rattle.registers.proofs.place.cut.Statement.{statement}
 use Rattle.registers.proofs.place.cut.Tie as tie
 
-returns : tie.Need-returns
-unfolding cutOf onesOf
-returns c = rw (c .ones .ensures) (and-mask _ (8 * c .before .args .width))
-
 pub cut-spec : {M : Type 1} → statement M
-cut-spec = tie.close (tie.spec (λ c. search needs) (λ c. search needs) (λ c κs. search needs) returns)
+unfolding cutOf onesOf
+cut-spec =
+    tie.close
+    (tie.spec (λ c. search needs) (λ c. search needs) (λ c κs. search needs)
+    (λ c. rw (c .ones .ensures) (and-mask _ (8 * c .before .args .width))))

@@ -6,14 +6,11 @@ use Rattle.registers.proofs.Lanes.{lanes-exact, placed-exact}
 use Rattle.registers.proofs.place.edit_of.Statement.{statement}
 use Rattle.registers.proofs.place.edit_of.Tie as tie
 
-returns : tie.Need-returns
-unfolding lanesOf placedOf
-returns c =
-    let a = c .before .args in
-    let p = c .before .pre in
-    rw (c .ones .ensures, lanes-exact (a .lane) (a .width) (p .1), placed-exact (a .lane) (a .width) (a .value) (p .1) (p .2))
-
 pub edit-of-spec : {M : Type 1} → statement M
+unfolding lanesOf placedOf
 edit-of-spec =
     tie.close
-    (tie.spec (λ c. search needs) (λ c κs. search needs) (λ c. search needs) (λ c. search needs) returns)
+    (tie.spec (λ c. search needs) (λ c κs. search needs) (λ c. search needs) (λ c. search needs)
+    (λ c. let a = c .before .args in
+    let p = c .before .pre in
+    rw (c .ones .ensures, lanes-exact (a .lane) (a .width) (p .1), placed-exact (a .lane) (a .width) (a .value) (p .1) (p .2))))

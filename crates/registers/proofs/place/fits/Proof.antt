@@ -7,9 +7,6 @@ use Rattle.registers.proofs.Lanes.{leb-ones}
 use Rattle.registers.proofs.place.fits.Statement.{statement}
 use Rattle.registers.proofs.place.fits.Tie as tie
 
-returns : tie.Need-returns
-unfolding onesOf
-returns c = rw (c .ones .ensures) (leb-ones (c .before .args .value) (8 * c .before .args .width))
-
 pub fits-spec : {M : Type 1} → statement M
-fits-spec = tie.close (tie.spec (λ c κs. search needs) returns)
+unfolding onesOf
+fits-spec = tie.close (tie.spec (λ c κs. search needs) (λ c. rw (c .ones .ensures) (leb-ones (c .before .args .value) (8 * c .before .args .width))))

@@ -3,11 +3,9 @@
 use Rattle.registers.proofs.reset.resets_of.Statement.{statement}
 use Rattle.registers.proofs.reset.resets_of.Tie as tie
 
-returns : tie.Need-returns
-returns c = rw (← c .before .before .touches-byte .ensures, c .before .if1 .taken) (c .reset-bits .ensures)
-
-returns-2 : tie.Need-returns-2
-returns-2 c = rw (← c .before .touches-byte .ensures, c .if1 .left)
-
 pub resets-of-spec : {M : Type 1} → statement M
-resets-of-spec = tie.close (tie.spec (λ c κs. tt) (λ c κs. tt) returns returns-2)
+resets-of-spec =
+    tie.close
+    (tie.spec (λ c κs. tt) (λ c κs. tt)
+    (λ c. rw (← c .before .before .touches-byte .ensures, c .before .if1 .taken) (c .reset-bits .ensures))
+    (λ c. rw (← c .before .touches-byte .ensures, c .if1 .left)))

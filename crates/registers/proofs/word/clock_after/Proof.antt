@@ -3,8 +3,5 @@
 use Rattle.registers.proofs.word.clock_after.Statement.{statement}
 use Rattle.registers.proofs.word.clock_after.Tie as tie
 
-returns : tie.Need-returns
-returns c = rw (c .replaced .ensures, c .before .kept .ensures)
-
 pub clock-after-spec : {M : Type 1} → statement M
-clock-after-spec = tie.close (tie.spec (λ c κs. tt) (λ c κs. tt) returns)
+clock-after-spec = tie.close (tie.spec (λ c κs. tt) (λ c κs. tt) (λ c. rw (c .replaced .ensures, c .before .kept .ensures)))

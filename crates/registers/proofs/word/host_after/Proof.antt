@@ -3,8 +3,5 @@
 use Rattle.registers.proofs.word.host_after.Statement.{statement}
 use Rattle.registers.proofs.word.host_after.Tie as tie
 
-returns : tie.Need-returns
-returns c = rw (c .replaced .ensures, c .before .kept .ensures)
-
 pub host-after-spec : {M : Type 1} → statement M
-host-after-spec = tie.close (tie.spec (λ c κs. tt) (λ c κs. tt) returns)
+host-after-spec = tie.close (tie.spec (λ c κs. tt) (λ c κs. tt) (λ c. rw (c .replaced .ensures, c .before .kept .ensures)))

@@ -3,8 +3,5 @@
 use Rattle.registers.proofs.word.is_inhibited.Statement.{statement}
 use Rattle.registers.proofs.word.is_inhibited.Tie as tie
 
-returns : tie.Need-returns
-returns c = rw (c .is-guarded .ensures, c .before .is-used .ensures)
-
 pub is-inhibited-spec : {M : Type 1} → statement M
-is-inhibited-spec = tie.close (tie.spec (λ c κs. tt) (λ c κs. tt) returns)
+is-inhibited-spec = tie.close (tie.spec (λ c κs. tt) (λ c κs. tt) (λ c. rw (c .is-guarded .ensures, c .before .is-used .ensures)))

@@ -3,11 +3,9 @@
 use Rattle.registers.proofs.word.mode_kept.Statement.{statement}
 use Rattle.registers.proofs.word.mode_kept.Tie as tie
 
-returns : tie.Need-returns
-returns c = rw (c .less2 .ensures, c .before .less .ensures, c .before .before .if1 .taken)
-
-returns-2 : tie.Need-returns-2
-returns-2 c = rw (c .if1 .left)
-
 pub mode-kept-spec : {M : Type 1} → statement M
-mode-kept-spec = tie.close (tie.spec (λ c κs. tt) (λ c κs. tt) returns returns-2)
+mode-kept-spec =
+    tie.close
+    (tie.spec (λ c κs. tt) (λ c κs. tt)
+    (λ c. rw (c .less2 .ensures, c .before .less .ensures, c .before .before .if1 .taken))
+    (λ c. rw (c .if1 .left)))

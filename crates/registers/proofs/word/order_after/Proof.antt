@@ -3,8 +3,5 @@
 use Rattle.registers.proofs.word.order_after.Statement.{statement}
 use Rattle.registers.proofs.word.order_after.Tie as tie
 
-returns : tie.Need-returns
-returns c = rw (c .stored-word .ensures, c .before .mode-kept .ensures)
-
 pub order-after-spec : {M : Type 1} → statement M
-order-after-spec = tie.close (tie.spec (λ c κs. tt) (λ c κs. tt) returns)
+order-after-spec = tie.close (tie.spec (λ c κs. tt) (λ c κs. tt) (λ c. rw (c .stored-word .ensures, c .before .mode-kept .ensures)))

@@ -8,8 +8,7 @@ use borrow.Author.Needs.{needs}
 use Rattle.runfile.proofs.file.byte_at.Statement.{statement}
 use Rattle.runfile.proofs.file.byte_at.Tie as tie
 
-returns-2 : tie.Need-returns-2
-returns-2 c = sym (List·getD-eq-default (now (c .before .args .file)) 0 (omega arith))
-
 pub byte-at-spec : {M : Type 1} → statement M
-byte-at-spec = tie.close (tie.spec (λ c. search needs) (λ c. search needs) returns-2)
+byte-at-spec =
+    tie.close
+    (tie.spec (λ c. search needs) (λ c. search needs) (λ c. sym (List·getD-eq-default (now (c .before .args .file)) 0 (omega arith))))

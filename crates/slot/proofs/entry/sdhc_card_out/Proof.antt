@@ -12,5 +12,5 @@ pub sdhc-card-out-spec : {M : Type 1} → statement M
 unfolding code.routine
 sdhc-card-out-spec 𝓤 H 𝓜 𝓖 𝓡 =
     entry 0 (λ r. outOf (slotOf r)) 𝓤 H 𝓜 𝓖 𝓡 code.env name callee.name
-    callee.routine (code.unfolded 𝓤 H 𝓜 𝓡) code.calls-slot·record·Record·card-out (callee-thm.met 𝓤 H 𝓜 𝓖 𝓡)
+    (code.unfolded 𝓤 H 𝓜 𝓡) code.calls-slot·record·Record·card-out (callee-thm.met 𝓤 H 𝓜 𝓖 𝓡)
     (code.calls-terms·Answer·number, code.calls-slot·record·Record·of, code.calls-slot·step·answer-of)

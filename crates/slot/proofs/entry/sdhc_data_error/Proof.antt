@@ -12,5 +12,5 @@ pub sdhc-data-error-spec : {M : Type 1} → statement M
 unfolding code.routine
 sdhc-data-error-spec 𝓤 H 𝓜 𝓖 𝓡 =
     entry 1 (λ r. dataError (slotOf r)) 𝓤 H 𝓜 𝓖 𝓡 code.env name callee.name
-    callee.routine (code.unfolded 𝓤 H 𝓜 𝓡) code.calls-slot·record·Record·data-error (callee-thm.met 𝓤 H 𝓜 𝓖 𝓡)
+    (code.unfolded 𝓤 H 𝓜 𝓡) code.calls-slot·record·Record·data-error (callee-thm.met 𝓤 H 𝓜 𝓖 𝓡)
     (code.calls-terms·Answer·number, code.calls-slot·record·Record·of, code.calls-slot·step·answer-of)

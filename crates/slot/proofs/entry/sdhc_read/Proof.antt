@@ -10,5 +10,5 @@ use Rattle.slot.proofs.entry.sdhc_read.Code as code
 pub sdhc-read-spec : {M : Type 1} → statement M
 unfolding code.routine
 sdhc-read-spec 𝓤 H 𝓜 𝓖 𝓡 =
-    entry 2 readOf 𝓤 H 𝓜 𝓖 𝓡 code.env name callee.name callee.routine (code.unfolded 𝓤 H 𝓜 𝓡)
-    code.calls-slot·record·Record·read (callee-thm.met 𝓤 H 𝓜 𝓖 𝓡)
+    entry 2 readOf 𝓤 H 𝓜 𝓖 𝓡 code.env name callee.name
+    (code.unfolded 𝓤 H 𝓜 𝓡) code.calls-slot·record·Record·read (callee-thm.met 𝓤 H 𝓜 𝓖 𝓡)

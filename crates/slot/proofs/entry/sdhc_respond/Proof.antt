@@ -12,5 +12,5 @@ pub sdhc-respond-spec : {M : Type 1} → statement M
 unfolding code.routine
 sdhc-respond-spec 𝓤 H 𝓜 𝓖 𝓡 =
     entry 5 (λ r result a b c d. respondOf (slotOf r) result (record { first = a; second = b; third = c; fourth = d })) 𝓤 H 𝓜 𝓖 𝓡 code.env name callee.name
-    callee.routine (code.unfolded 𝓤 H 𝓜 𝓡) code.calls-slot·record·Record·respond (callee-thm.met 𝓤 H 𝓜 𝓖 𝓡)
+    (code.unfolded 𝓤 H 𝓜 𝓡) code.calls-slot·record·Record·respond (callee-thm.met 𝓤 H 𝓜 𝓖 𝓡)
     (code.calls-terms·Answer·number, code.calls-slot·record·Record·of, code.calls-slot·step·answer-of)

@@ -12,5 +12,5 @@ pub sdhc-set-level-spec : {M : Type 1} → statement M
 unfolding code.routine
 sdhc-set-level-spec 𝓤 H 𝓜 𝓖 𝓡 =
     entry 1 (λ r up. levelOf (slotOf r) (flagAt up)) 𝓤 H 𝓜 𝓖 𝓡 code.env name callee.name
-    callee.routine (code.unfolded 𝓤 H 𝓜 𝓡) code.calls-slot·record·Record·set-level (callee-thm.met 𝓤 H 𝓜 𝓖 𝓡)
+    (code.unfolded 𝓤 H 𝓜 𝓡) code.calls-slot·record·Record·set-level (callee-thm.met 𝓤 H 𝓜 𝓖 𝓡)
     (code.calls-terms·Answer·number, code.calls-slot·record·Record·of, code.calls-slot·step·answer-of)

@@ -1,5 +1,4 @@
--- `lines::sdhc_read_line` meets its contract: `read_line` reads, and the line is spelled.
--- Assumes nothing.
+-- `lines::sdhc_read_line` meets its contract: `read_line` reads, and the line is spelled. Assumes nothing.
 use Rattle.slot.proofs.lines.sdhc_read_line.Statement.{statement}
 use Rattle.slot.proofs.lines.sdhc_read_line.Tie as tie
 

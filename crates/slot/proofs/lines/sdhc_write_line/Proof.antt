@@ -1,5 +1,4 @@
--- `lines::sdhc_write_line` meets its contract: `write_line` writes the line that is spelled.
--- Assumes nothing.
+-- `lines::sdhc_write_line` meets its contract: `write_line` writes the line that is spelled. Assumes nothing.
 use borrow.Author.Needs.{needs}
 use Rattle.slot.proofs.lines.sdhc_write_line.Statement.{statement}
 use Rattle.slot.proofs.lines.sdhc_write_line.Tie as tie

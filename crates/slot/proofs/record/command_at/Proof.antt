@@ -1,5 +1,4 @@
--- `record::command_at` meets its contract: each branch knows its tests, and `kind_at` gives the type of the response.
--- Assumes nothing.
+-- `record::command_at` meets its contract: each branch knows its tests, and `kind_at` gives the type of the response. Assumes nothing.
 use borrow.Author.Tests.{eq-eqb, ne-eqb}
 use Rattle.slot.proofs.record.command_at.Statement.{statement}
 use Rattle.slot.proofs.record.command_at.Tie as tie

@@ -1,5 +1,4 @@
--- `record::dat_at` meets its contract: each branch knows its tests, and `way_at` and `stage_at` give way and stage.
--- Assumes nothing.
+-- `record::dat_at` meets its contract: each branch knows its tests, and `way_at` and `stage_at` give way and stage. Assumes nothing.
 use borrow.Author.Tests.{eq-eqb, ne-eqb}
 use Rattle.slot.proofs.record.dat_at.Statement.{statement}
 use Rattle.slot.proofs.record.dat_at.Tie as tie

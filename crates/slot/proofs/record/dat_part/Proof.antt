@@ -1,5 +1,4 @@
--- `record::dat_part` meets its contract: the arm says what the DAT side is doing, and the callees spell it.
--- Assumes nothing.
+-- `record::dat_part` meets its contract: the arm says what the DAT side is doing, and the callees spell it. Assumes nothing.
 use Rattle.slot.proofs.record.dat_part.Statement.{statement}
 use Rattle.slot.proofs.record.dat_part.Tie as tie
 

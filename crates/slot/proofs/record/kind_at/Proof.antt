@@ -1,5 +1,4 @@
--- `record::kind_at` meets its contract: each branch knows its tests.
--- Assumes nothing.
+-- `record::kind_at` meets its contract: each branch knows its tests. Assumes nothing.
 use borrow.Author.Tests.{eq-eqb, ne-eqb}
 use Rattle.slot.proofs.record.kind_at.Statement.{statement}
 use Rattle.slot.proofs.record.kind_at.Tie as tie

@@ -1,5 +1,4 @@
--- `record::stage_at` meets its contract: each branch knows its tests.
--- Assumes nothing.
+-- `record::stage_at` meets its contract: each branch knows its tests. Assumes nothing.
 use borrow.Author.Tests.{eq-eqb, ne-eqb}
 use Rattle.slot.proofs.record.stage_at.Statement.{statement}
 use Rattle.slot.proofs.record.stage_at.Tie as tie

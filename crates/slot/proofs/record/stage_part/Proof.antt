@@ -1,5 +1,4 @@
--- `record::stage_part` meets its contract: the arm says how the engine stands.
--- Assumes nothing.
+-- `record::stage_part` meets its contract: the arm says how the engine stands. Assumes nothing.
 use Rattle.slot.proofs.record.stage_part.Statement.{statement}
 use Rattle.slot.proofs.record.stage_part.Tie as tie
 

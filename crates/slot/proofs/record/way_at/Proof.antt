@@ -1,5 +1,4 @@
--- `record::way_at` meets its contract: each branch knows its test.
--- Assumes nothing.
+-- `record::way_at` meets its contract: each branch knows its test. Assumes nothing.
 use borrow.Author.Tests.{eq-eqb, ne-eqb}
 use Rattle.slot.proofs.record.way_at.Statement.{statement}
 use Rattle.slot.proofs.record.way_at.Tie as tie

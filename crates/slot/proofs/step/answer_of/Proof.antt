@@ -1,5 +1,4 @@
--- `step::answer_of` meets its contract: `number` and `value` give the fields.
--- Assumes nothing.
+-- `step::answer_of` meets its contract: `number` and `value` give the fields. Assumes nothing.
 use borrow.Author.Needs.{needs}
 use Rattle.slot.proofs.step.answer_of.Statement.{statement}
 use Rattle.slot.proofs.step.answer_of.Tie as tie

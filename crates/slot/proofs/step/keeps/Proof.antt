@@ -1,5 +1,4 @@
--- `step::keeps` meets its contract: `answer_of` spells the answer.
--- Assumes nothing.
+-- `step::keeps` meets its contract: `answer_of` spells the answer. Assumes nothing.
 use Rattle.slot.proofs.step.keeps.Statement.{statement}
 use Rattle.slot.proofs.step.keeps.Tie as tie
 

@@ -1,109 +1,47 @@
--- `fetch::fetch` meets its contract: `there` and `steps` say what Valid 1 means, and each arm cites `steps` at its act.
+-- `fetch::fetch` meets its contract: a line with Valid 1 is all there, and each arm knows the act (`by-act`).
 -- Assumes nothing.
 use Rattle.table.proofs.Laws.{line-there}
-use Rattle.table.specs.Fetch.{fetchOf, actedOf}
-use Rattle.table.specs.Line.{lineSize, lineBytes, flagsOf}
+use Rattle.table.specs.Fetch.{fetchState, fetchOf, actedOf}
+use Rattle.table.specs.Line.{lineSize, lineBytes, flagsOf, actOf}
+use Rattle.table.specs.declared.line.Flags.{Flags}
+use Rattle.table.specs.declared.line.Act.{Act}
+use Rattle.table.specs.declared.fetch.Fetched.{Fetched}
+use Rattle.table.specs.declared.fetch.Fetched.the-variants.{Fault}
+use Rattle.terms.specs.declared.ByteCount.{ByteCount}
 use denote.Ref.{now}
 use lib.ListN.{length}
 use mathlib.Core.Bool.{true, false}
-use mathlib.Core.Path.{_≡_, sym, _∙_}
+use mathlib.Core.List.{List}
+use mathlib.Core.Path.{_≡_}
 use native.Mathlib.Omega.{arith}
-use Prim.Native.Nat.{_+_, _≤_}
-use borrow.Author.Needs.{needs}
+use Prim.Native.Nat.{ℕ, _+_, _≤_}
 use Rattle.table.proofs.fetch.fetch.Statement.{statement}
 use Rattle.table.proofs.fetch.fetch.Tie as tie
 
--- where Valid is 1, the line is all there, and the fetch is what its act says
-there : (c : tie.Then1) →
-    let d = c .before .before in
-    let a = d .before .before .args in
-    a .at + lineSize ≤ length (now (a .mem))
+-- a line with Valid 1 is all there
+there : (c : tie.Then1) → let a = c .before .before .before .before .args in a .at + lineSize ≤ length (now (a .mem))
 there c =
-    let d = c .before .before in
-    let a = d .before .before .args in
-    let h : flagsOf (now (d .line-at .result)) .valid ≡ true = cc in
-    line-there (now (a .mem)) (a .at) (rw (d .line-at .ensures) at h)
+    line-there (now (c .before .before .before .before .args .mem)) _
+    (rw (c .before .flags-of .ensures, c .before .before .line-at .ensures) at (c .if1 .taken))
 
-steps : (c : tie.After-act-of) →
-    let d = c .before .before .before in
-    let a = d .before .before .args in
-    fetchOf (now (a .mem)) (a .at) (a .owed)
-    ≡ actedOf (c .act-of .result) (now (d .line-at .result)) (a .at) (length (now (a .mem))) (a .owed)
-unfolding fetchOf
-steps c =
-    let d = c .before .before .before in
-    let h : flagsOf (now (d .line-at .result)) .valid ≡ true = cc in
-    rw (← d .line-at .ensures, c .act-of .ensures, c .before .before .flags-of .ensures) (simp h)
+module _ (mem : List ℕ) (at : ℕ) (l : List ℕ) (f : Flags) (e : l ≡ lineBytes mem at) (g : f ≡ flagsOf l) where
+  -- a line with Valid 1, by its act; with Valid 0 it is an error
+  by-act : (owed : ByteCount) (a v : Act) (r : Fetched) → f .valid ≡ true → a ≡ actOf f → a ≡ v
+      → r ≡ actedOf v l at (length mem) owed → r ≡ fetchOf mem at owed
+  unfolding fetchOf
+  by-act owed a v r t b c h = rw (← e, rw g at t, ← rw g at b, c) h
 
-line-at-requires : tie.Need-line-at-requires
-line-at-requires c κs = search needs
-
-flags-of-requires : tie.Need-flags-of-requires
-flags-of-requires c κs = search needs
-
-act-of-requires : tie.Need-act-of-requires
-act-of-requires c κs = search needs
-
-enum-told : tie.Need-enum-told
-enum-told c = search needs
-
-add-tran : tie.Need-add-tran
-add-tran c = omega (arith, there (c .before .before .before))
-
-tran-requires : tie.Need-tran-requires
-tran-requires c κs = search needs
-
-enum-told-2 : tie.Need-enum-told-2
-enum-told-2 c = search needs
-
-address-of-requires : tie.Need-address-of-requires
-address-of-requires c κs = search needs
-
-step-requires : tie.Need-step-requires
-step-requires c κs = search needs
-
-enum-told-3 : tie.Need-enum-told-3
-enum-told-3 c = search needs
-
-add-step : tie.Need-add-step
-add-step c = omega (arith, there (c .before .before .before))
-
-step-requires-2 : tie.Need-step-requires-2
-step-requires-2 c κs = search needs
-
-returns : tie.Need-returns
-returns c = cc (rw (c .before .enum-told .given .1) at (steps (c .before .before .before)))
-
-returns-2 : tie.Need-returns-2
-returns-2 c = cc (rw (c .before .before .enum-told2 .given .1) at (steps (c .before .before .before .before)))
-
-returns-3 : tie.Need-returns-3
-returns-3 c = cc (rw (c .before .enum-told3 .given .1) at (steps (c .before .before .before)))
-
-returns-4 : tie.Need-returns-4
-unfolding fetchOf
-returns-4 c =
-    let d = c .before .before in
-    let h : flagsOf (now (d .line-at .result)) .valid ≡ false = cc in
-    rw (← d .line-at .ensures) (simp h)
+  not-valid : (owed : ByteCount) → f .valid ≡ false → Fault fetchState at ≡ fetchOf mem at owed
+  unfolding fetchOf
+  not-valid owed t = rw (← e, rw g at t)
 
 pub fetch-spec : {M : Type 1} → statement M
 fetch-spec =
     tie.close
     (tie.spec
-    line-at-requires
-    flags-of-requires
-    act-of-requires
-    enum-told
-    add-tran
-    tran-requires
-    enum-told-2
-    address-of-requires
-    step-requires
-    enum-told-3
-    add-step
-    step-requires-2
-    returns
-    returns-2
-    returns-3
-    returns-4)
+    (λ c κs. tt) (λ c κs. tt) (λ c κs. tt)
+    (λ c. omega (arith, there (c .before)))
+    (λ c. search) (λ c κs. tt) (λ c. search) (λ c κs. tt) (λ c κs. tt) (λ c. search) (λ c κs. tt)
+    (λ c. search by-act)
+    (λ c. let h = rw (c .before .address-of .ensures) at (c .step .ensures) in search by-act)
+    (λ c. search by-act) (λ c. search not-valid))

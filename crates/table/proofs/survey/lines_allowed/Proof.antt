@@ -5,11 +5,9 @@ use native.Mathlib.Omega.{arith}
 use Rattle.table.proofs.survey.lines_allowed.Statement.{statement}
 use Rattle.table.proofs.survey.lines_allowed.Tie as tie
 
-returns : tie.Need-returns
-returns c = (simp (eq-eqb _ _ (c .if1 .taken)), omega arith)
-
-returns-2 : tie.Need-returns-2
-returns-2 c = (simp (ne-eqb _ _ (c .if1 .left)), omega arith)
-
 pub lines-allowed-spec : {M : Type 1} → statement M
-lines-allowed-spec = tie.close (tie.spec returns returns-2)
+lines-allowed-spec =
+    tie.close
+    (tie.spec
+    (λ c. (simp (eq-eqb _ _ (c .if1 .taken)), omega arith))
+    (λ c. (simp (ne-eqb _ _ (c .if1 .left)), omega arith)))

@@ -7,14 +7,5 @@ use Rattle.terms.specs.Counts.{blocks}
 use Rattle.terms.proofs.BlockCount.fewer.Statement.{statement}
 use Rattle.terms.proofs.BlockCount.fewer.Tie as tie
 
-sub-t4 : tie.Need-sub-t4
-sub-t4 c = search needs
-
-returns : tie.Need-returns
-returns c = ap blocks (omega arith)
-
-returns-2 : tie.Need-returns-2
-returns-2 c = ap blocks (omega arith)
-
 pub fewer-spec : {M : Type 1} → statement M
-fewer-spec = tie.close (tie.spec sub-t4 returns returns-2)
+fewer-spec = tie.close (tie.spec (λ c. search needs) (λ c. ap blocks (omega arith)) (λ c. ap blocks (omega arith)))

@@ -6,11 +6,5 @@ use Rattle.terms.specs.Counts.{bytes}
 use Rattle.terms.proofs.ByteCount.least.Statement.{statement}
 use Rattle.terms.proofs.ByteCount.least.Tie as tie
 
-returns : tie.Need-returns
-returns c = ap bytes (omega arith)
-
-returns-2 : tie.Need-returns-2
-returns-2 c = ap bytes (omega arith)
-
 pub least-spec : {M : Type 1} → statement M
-least-spec = tie.close (tie.spec returns returns-2)
+least-spec = tie.close (tie.spec (λ c. ap bytes (omega arith)) (λ c. ap bytes (omega arith)))

@@ -7,11 +7,5 @@ use Rattle.terms.specs.Counts.{bytes}
 use Rattle.terms.proofs.ByteCount.less.Statement.{statement}
 use Rattle.terms.proofs.ByteCount.less.Tie as tie
 
-returns : tie.Need-returns
-returns c = ap bytes (omega arith)
-
-returns-2 : tie.Need-returns-2
-returns-2 c = search needs
-
 pub less-spec : {M : Type 1} → statement M
-less-spec = tie.close (tie.spec returns returns-2)
+less-spec = tie.close (tie.spec (λ c. ap bytes (omega arith)) (λ c. search needs))

@@ -3,8 +3,12 @@
 use Rattle.controller.proofs.slot.Slot.card_out.Statement.{statement}
 use Rattle.controller.proofs.slot.Slot.card_out.Tie as tie
 
-returns : tie.Need-returns
-returns c =
+pub card-out-spec : {M : Type 1} → statement M
+card-out-spec =
+    tie.close
+    (tie.spec
+    (λ c κs. tt) (λ c κs. tt) (λ c κs. tt) (λ c κs. tt) (λ c κs. tt) (λ c κs. tt)
+    (λ c.
     let d = c .before .before .before in
     simp (
       d .before .before .if1 .taken,
@@ -13,10 +17,5 @@ returns c =
       c .before .before .halted-command .ensures,
       d .raised-at .ensures,
       d .before .unplug .ensures,
-    )
-
-pub card-out-spec : {M : Type 1} → statement M
-card-out-spec =
-    tie.close
-    (tie.spec
-    (λ c κs. tt) (λ c κs. tt) (λ c κs. tt) (λ c κs. tt) (λ c κs. tt) (λ c κs. tt) returns (λ c. simp (c .before .if1 .left, c .gives2 .ensures)))
+    ))
+    (λ c. simp (c .before .if1 .left, c .gives2 .ensures)))

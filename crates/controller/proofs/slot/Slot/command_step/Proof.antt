@@ -17,19 +17,12 @@ steps c =
     let t = rw (d .before .before .facts .ensures) at (d .before .take .ensures) in
     rw (← t, ← d .request-of .ensures, ← c .before .before .bus-clock .ensures, ← c .before .bus-power .ensures, ← c .judge .ensures)
 
-returns : tie.Need-returns
-returns c =
-    let d = c .before .before in
-    rw (steps (d .before .before), ← d .before .number .ensures, eq-eqb _ _ (d .if1 .taken), c .gives .ensures, c .before .issue .ensures)
-
-returns-2 : tie.Need-returns-2
-returns-2 c =
-    let d = c .before in
-    rw (steps (d .before .before), ← d .before .number .ensures, ne-eqb _ _ (d .if1 .left)) (c .gives2 .ensures)
-
 pub command-step-spec : {M : Type 1} → statement M
 command-step-spec =
     tie.close
     (tie.spec
-    (λ c κs. tt) (λ c κs. tt) (λ c κs. tt) (λ c κs. tt) (λ c κs. tt)
-    (λ c κs. tt) (λ c κs. tt) (λ c κs. tt) (λ c κs. tt) (λ c κs. tt) returns returns-2)
+    (λ c κs. tt) (λ c κs. tt) (λ c κs. tt) (λ c κs. tt) (λ c κs. tt) (λ c κs. tt) (λ c κs. tt) (λ c κs. tt) (λ c κs. tt) (λ c κs. tt)
+    (λ c.
+    let d = c .before .before in
+    rw (steps (d .before .before), ← d .before .number .ensures, eq-eqb _ _ (d .if1 .taken), c .gives .ensures, c .before .issue .ensures))
+    (λ c. let d = c .before in rw (steps (d .before .before), ← d .before .number .ensures, ne-eqb _ _ (d .if1 .left)) (c .gives2 .ensures)))

@@ -2,39 +2,13 @@
 -- Assumes nothing.
 use Prim.Native.Nat.{ℕ}
 use mathlib.Core.Path.{_≡_}
-use Rattle.engine.specs.declared.transfer.Dat.{Dat}
 use Rattle.controller.specs.Data.{dataErrorAt, dataError}
-use Rattle.controller.specs.declared.slot.Slot.{Slot}
-use Rattle.controller.specs.declared.slot.Stepped.{Stepped}
+use Rattle.controller.proofs.Names.{Dat, Slot, Stepped}
 use Rattle.controller.proofs.slot.Slot.data_error.Statement.{statement}
 use Rattle.controller.proofs.slot.Slot.data_error.Tie as tie
 
 by-dat : (d e : Dat) (s : Slot) (n : ℕ) (r : Stepped) → d ≡ e → r ≡ dataErrorAt e s n → r ≡ dataErrorAt d s n
 by-dat d e s n r h g = rw h g
-
-returns-2 : tie.Need-returns-2
-unfolding dataError
-returns-2 c =
-    let d = c .before .before in
-    by-dat _ _ _ _ _ (d .before .before .dat .given .1) (simp (d .if1 .taken, c .told .ensures, c .before .data-event .ensures))
-
-returns-3 : tie.Need-returns-3
-unfolding dataError
-returns-3 c =
-    let d = c .before in
-    by-dat _ _ _ _ _ (d .before .before .dat .given .1) (simp (d .if1 .left) (c .gives2 .ensures))
-
-returns-4 : tie.Need-returns-4
-unfolding dataError
-returns-4 c =
-    let d = c .before .before in
-    by-dat _ _ _ _ _ (d .before .before .before .dat2 .given .1) (simp (d .if2 .taken, c .told2 .ensures, c .before .data-event2 .ensures))
-
-returns-5 : tie.Need-returns-5
-unfolding dataError
-returns-5 c =
-    let d = c .before in
-    by-dat _ _ _ _ _ (d .before .before .before .dat2 .given .1) (simp (d .if2 .left) (c .gives3 .ensures))
 
 pub data-error-spec : {M : Type 1} → statement M
 unfolding dataError
@@ -42,5 +16,13 @@ data-error-spec =
     tie.close
     (tie.spec
     (λ c. search) (λ c κs. tt) (λ c. search) (λ c κs. tt) (λ c κs. tt) (λ c κs. tt) (λ c. search) (λ c κs. tt) (λ c κs. tt) (λ c κs. tt)
-    (λ c. search) (λ c κs. tt) (λ c. search) (λ c κs. tt)
-    (λ c. search by-dat) returns-2 returns-3 returns-4 returns-5 (λ c. search by-dat) (λ c. search by-dat))
+    (λ c. search) (λ c κs. tt) (λ c. search) (λ c κs. tt) (λ c. search by-dat)
+    (λ c.
+    let d = c .before .before in
+    by-dat _ _ _ _ _ (d .before .before .dat .given .1) (simp (d .if1 .taken, c .told .ensures, c .before .data-event .ensures)))
+    (λ c. let d = c .before in by-dat _ _ _ _ _ (d .before .before .dat .given .1) (simp (d .if1 .left) (c .gives2 .ensures)))
+    (λ c.
+    let d = c .before .before in
+    by-dat _ _ _ _ _ (d .before .before .before .dat2 .given .1) (simp (d .if2 .taken, c .told2 .ensures, c .before .data-event2 .ensures)))
+    (λ c. let d = c .before in by-dat _ _ _ _ _ (d .before .before .before .dat2 .given .1) (simp (d .if2 .left) (c .gives3 .ensures)))
+    (λ c. search by-dat) (λ c. search by-dat))

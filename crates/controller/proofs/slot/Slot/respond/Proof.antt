@@ -2,11 +2,8 @@
 -- Assumes nothing.
 use Prim.Native.Nat.{ℕ}
 use mathlib.Core.Path.{_≡_}
-use Rattle.registers.specs.declared.block.Reply.{Reply}
 use Rattle.controller.specs.Card.{respondTo, respondOf}
-use Rattle.controller.specs.declared.slot.Command.{Command}
-use Rattle.controller.specs.declared.slot.Slot.{Slot}
-use Rattle.controller.specs.declared.slot.Stepped.{Stepped}
+use Rattle.controller.proofs.Names.{Command, Slot, Stepped, Reply}
 use Rattle.controller.proofs.slot.Slot.respond.Statement.{statement}
 use Rattle.controller.proofs.slot.Slot.respond.Tie as tie
 

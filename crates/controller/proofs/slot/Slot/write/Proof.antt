@@ -9,15 +9,6 @@ use Rattle.controller.specs.Access.{storeOf, writeOf}
 use Rattle.controller.proofs.slot.Slot.write.Statement.{statement}
 use Rattle.controller.proofs.slot.Slot.write.Tie as tie
 
-returns : tie.Need-returns
-returns c = rw (← c .before .before .before .target-of .ensures, c .before .enum-told .given .1) (c .gives .ensures)
-
-returns-2 : tie.Need-returns-2
-returns-2 c =
-    let d = c .before .before in
-    let k = d .before .before in
-    rw (← k .before .before .target-of .ensures, k .target .given .1, ← d .is-command .ensures, c .before .if1 .taken) (c .command-step .ensures)
-
 -- a target that is no command: the DAT side inhibits the write, or it is stored
 apart : (c : tie.After-is-inhibited) →
     let k = c .before .before .before .before .before in
@@ -37,8 +28,15 @@ pub write-spec : {M : Type 1} → statement M
 write-spec =
     tie.close
     (tie.spec
-    (λ c κs. tt) (λ c. search) (λ c. search) (λ c κs. tt) returns (λ c κs. tt) (λ c κs. tt) returns-2
-    (λ c κs. tt) (λ c κs. tt) (λ c κs. tt) (λ c. rw (apart (c .before .before), c .before .if2 .taken) (c .gives2 .ensures))
+    (λ c κs. tt) (λ c. search) (λ c. search) (λ c κs. tt)
+    (λ c. rw (← c .before .before .before .target-of .ensures, c .before .enum-told .given .1) (c .gives .ensures))
+    (λ c κs. tt) (λ c κs. tt)
+    (λ c.
+    let d = c .before .before in
+    let k = d .before .before in
+    rw (← k .before .before .target-of .ensures, k .target .given .1, ← d .is-command .ensures, c .before .if1 .taken) (c .command-step .ensures))
+    (λ c κs. tt) (λ c κs. tt) (λ c κs. tt)
+    (λ c. rw (apart (c .before .before), c .before .if2 .taken) (c .gives2 .ensures))
     (λ c κs. tt) (λ c κs. tt) (λ c κs. tt)
     (λ c.
     let d = c .before .before .before in

@@ -1,80 +1,47 @@
 -- `Transfer::turn` meets its contract: the arm says the stage, the test whether the response is in.
 -- Assumes nothing.
+use Prim.Native.Nat.{ℕ}
+use mathlib.Core.Path.{_≡_}
+use mathlib.Core.List.{List}
+use mathlib.Core.Bool.{Bool}
+use lib.ListN.{length}
+use denote.Ref.{now}
 use borrow.Author.Needs.{needs}
+use Rattle.table.specs.Fetch.{fetchOf}
+use Rattle.engine.specs.Turn.{refusedAs, fetchedOf, movingOf, answeredOf, runningOf}
+use Rattle.engine.proofs.Names.{ByteCount, NoTransfer, Stage, Fetching, Moving, Stopped, Transfer, Runs}
 use Rattle.engine.proofs.transfer.Transfer.turn.Statement.{statement}
 use Rattle.engine.proofs.transfer.Transfer.turn.Tie as tie
-use denote.Ref.{now}
-use Rattle.engine.proofs.Clauses.{running-stopped, running-fetches, running-fetches-not, running-moves, running-moves-not}
 
-enum-told : tie.Need-enum-told
-enum-told c = search needs
+module _ (s : Stage) (t : Transfer) (table : ℕ) (x mem : List ℕ) where
+  stops : s ≡ Stopped → (refusedAs (Runs t) table NoTransfer, x, mem) ≡ runningOf s t table x mem
+  unfolding runningOf
+  stops e = rw e
 
-refused-requires : tie.Need-refused-requires
-refused-requires c κs = search needs
+  fetches : (b : Bool) → t .answered ≡ b → s ≡ Fetching
+      → answeredOf b t table x mem (fetchedOf t (length x) (fetchOf mem table (t .owed)), x, mem) ≡ runningOf s t table x mem
+  unfolding runningOf
+  fetches b a e = rw (e, ← a)
 
-enum-told-2 : tie.Need-enum-told-2
-enum-told-2 c = search needs
-
-fetching-requires : tie.Need-fetching-requires
-fetching-requires c κs = search needs
-
-refused-requires-2 : tie.Need-refused-requires-2
-refused-requires-2 c κs = search needs
-
-enum-known-stage : tie.Need-enum-known-stage
-enum-known-stage c = search needs
-
-moving-requires : tie.Need-moving-requires
-moving-requires c κs = search needs
-
-refused-requires-3 : tie.Need-refused-requires-3
-refused-requires-3 c κs = search needs
-
-returns : tie.Need-returns
-returns c = rw (c .refused .ensures) (running-stopped _ _ _ _ _ (c .before .enum-told .given .1))
-
-same-length : tie.Need-same-length
-same-length c = search needs
-
-returns-2 : tie.Need-returns-2
-returns-2 c = rw (c .fetching .ensures) (running-fetches _ _ _ _ _ (c .before .before .before .enum-told2 .given .1) (c .before .before .if1 .taken))
-
-returns-3 : tie.Need-returns-3
-returns-3 c = rw (c .refused2 .ensures) (running-fetches-not _ _ _ _ _ (c .before .before .enum-told2 .given .1) (c .before .if1 .left))
-
-same-length-2 : tie.Need-same-length-2
-same-length-2 c = search needs
-
-same-length-3 : tie.Need-same-length-3
-same-length-3 c = search needs
-
-returns-4 : tie.Need-returns-4
-returns-4 c =
-    let d = c .before .before .before .before .before .before .before in
-    let a = d .before .before .before .before .before .before .args in
-    let e = running-moves (a .self .stage) (a .self) (a .table) (now (a .buffer)) (now (a .mem)) (d .before .before .stage .given .1) (d .if2 .taken) in
-    rw (← e) (c .before .before .before .before .moving .ensures)
-
-returns-5 : tie.Need-returns-5
-returns-5 c = rw (c .refused3 .ensures) (running-moves-not _ _ _ _ _ (c .before .before .before .stage .given .1) (c .before .if2 .left))
+  moves : (b : Bool) {rest : ByteCount} {at : ℕ} {last int : Bool} → t .answered ≡ b → s ≡ Moving rest at last int
+      → answeredOf b t table x mem (movingOf t table rest at last int x mem) ≡ runningOf s t table x mem
+  unfolding runningOf
+  moves b a e = rw (e, ← a)
 
 pub turn-spec : {M : Type 1} → statement M
 turn-spec =
     tie.close
     (tie.spec
-    enum-told
-    refused-requires
-    enum-told-2
-    fetching-requires
-    refused-requires-2
-    enum-known-stage
-    moving-requires
-    refused-requires-3
-    returns
-    same-length
-    returns-2
-    returns-3
-    same-length-2
-    same-length-3
-    returns-4
-    returns-5)
+    (λ c. search) (λ c κs. tt) (λ c. search) (λ c κs. search needs) (λ c κs. tt) (λ c. search) (λ c κs. search needs) (λ c κs. tt)
+    (λ c. rw (c .refused .ensures) (stops _ _ _ _ _ (c .before .enum-told .given .1)))
+    (λ c. search needs)
+    (λ c. let d = c .before .before in rw (c .fetching .ensures) (fetches _ _ _ _ _ _ (d .if1 .taken) (d .before .enum-told2 .given .1)))
+    (λ c. let d = c .before in rw (c .refused2 .ensures) (fetches _ _ _ _ _ _ (d .if1 .left) (d .before .enum-told2 .given .1)))
+    (λ c. search needs) (λ c. search needs)
+    (λ c.
+    let m = c .before .before .before .before in
+    let d = m .before .before .before in
+    let a = d .before .before .before .before .before .before .args in
+    let e = moves (a .self .stage) (a .self) (a .table) (now (a .buffer)) (now (a .mem)) _ (d .if2 .taken) (d .before .before .stage .given .1) in
+    rw (← e) (m .moving .ensures))
+    (λ c. let d = c .before in rw (c .refused3 .ensures) (moves _ _ _ _ _ _ (d .if2 .left) (d .before .before .stage .given .1))))

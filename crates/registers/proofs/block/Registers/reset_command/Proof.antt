@@ -3,8 +3,5 @@
 use Rattle.registers.proofs.block.Registers.reset_command.Statement.{statement}
 use Rattle.registers.proofs.block.Registers.reset_command.Tie as tie
 
-returns : tie.Need-returns
-returns c = rw (c .with-interrupts .ensures, c .before .clear .ensures)
-
 pub reset-command-spec : {M : Type 1} → statement M
-reset-command-spec = tie.close (tie.spec (λ c κs. tt) (λ c κs. tt) returns)
+reset-command-spec = tie.close (tie.spec (λ c κs. tt) (λ c κs. tt) (λ c. rw (c .with-interrupts .ensures, c .before .clear .ensures)))

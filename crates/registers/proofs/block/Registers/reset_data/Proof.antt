@@ -3,8 +3,5 @@
 use Rattle.registers.proofs.block.Registers.reset_data.Statement.{statement}
 use Rattle.registers.proofs.block.Registers.reset_data.Tie as tie
 
-returns : tie.Need-returns
-returns c = rw (c .with-interrupts .ensures, c .before .clear .ensures)
-
 pub reset-data-spec : {M : Type 1} → statement M
-reset-data-spec = tie.close (tie.spec (λ c κs. tt) (λ c κs. tt) returns)
+reset-data-spec = tie.close (tie.spec (λ c κs. tt) (λ c κs. tt) (λ c. rw (c .with-interrupts .ensures, c .before .clear .ensures)))

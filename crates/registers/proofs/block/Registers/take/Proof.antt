@@ -4,13 +4,10 @@ use Rattle.registers.specs.Access.{takeOf}
 use Rattle.registers.proofs.block.Registers.take.Statement.{statement}
 use Rattle.registers.proofs.block.Registers.take.Tie as tie
 
-returns : tie.Need-returns
-unfolding takeOf
-returns c = rw (c .before .before .before .word .given .1, c .take-from .ensures, c .before .is-used .ensures)
-
-returns-2 : tie.Need-returns-2
-unfolding takeOf
-returns-2 c = rw (c .enum-told .given .1)
-
 pub take-spec : {M : Type 1} → statement M
-take-spec = tie.close (tie.spec (λ c. search) (λ c κs. tt) (λ c κs. tt) (λ c. search) returns returns-2)
+unfolding takeOf
+take-spec =
+    tie.close
+    (tie.spec (λ c. search) (λ c κs. tt) (λ c κs. tt) (λ c. search)
+    (λ c. rw (c .before .before .before .word .given .1, c .take-from .ensures, c .before .is-used .ensures))
+    (λ c. rw (c .enum-told .given .1)))

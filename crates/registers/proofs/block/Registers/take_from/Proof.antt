@@ -8,8 +8,7 @@ pub take-from-spec : {M : Type 1} → statement M
 unfolding takeFrom
 take-from-spec =
     tie.close
-    (tie.spec
-    (λ c. search) (λ c κs. tt) (λ c κs. tt) (λ c. search) (λ c κs. tt) (λ c κs. tt) (λ c. search) (λ c κs. tt) (λ c κs. tt)
+    (tie.spec (λ c. search) (λ c κs. tt) (λ c κs. tt) (λ c. search) (λ c κs. tt) (λ c κs. tt) (λ c. search) (λ c κs. tt) (λ c κs. tt)
     (λ c. search) (λ c κs. tt) (λ c κs. tt) (λ c. search) (λ c κs. tt) (λ c κs. tt)
     (λ c. search) (λ c κs. tt) (λ c κs. tt) (λ c κs. tt) (λ c κs. tt)
     (λ c. search) (λ c κs. tt) (λ c κs. tt) (λ c. search) (λ c κs. tt) (λ c κs. tt) (λ c. search) (λ c κs. tt) (λ c κs. tt)
@@ -19,8 +18,7 @@ take-from-spec =
     (λ c. rw (c .with-argument .ensures, c .before .stored-word3 .ensures, c .before .before .enum-told3 .given .1))
     (λ c. rw (c .with-order .ensures, c .before .order-after .ensures, c .before .before .enum-told4 .given .1))
     (λ c. rw (c .with-host .ensures, c .before .host-after .ensures, c .before .before .enum-told5 .given .1))
-    (λ c.
-    let d = c .before .before in
+    (λ c. let d = c .before .before in
     rw (c .reset .ensures, c .before .reset-bits .ensures, d .with-clock .ensures, d .before .clock-after .ensures, d .before .before .enum-told6 .given .1))
     (λ c. rw (c .with-interrupts .ensures, c .before .acknowledge .ensures, c .before .before .enum-told7 .given .1))
     (λ c. rw (c .with-interrupts2 .ensures, c .before .enable .ensures, c .before .before .enum-told8 .given .1))

@@ -16,8 +16,7 @@ by-word w v level r a e h = rw e h
 pub taker-shown-spec : {M : Type 1} → statement M
 taker-shown-spec =
     tie.close
-    (tie.spec
-    (λ c. search) (λ c. search) (λ c. search) (λ c. search) (λ c. search) (λ c. search) (λ c. search needs)
+    (tie.spec (λ c. search) (λ c. search) (λ c. search) (λ c. search) (λ c. search) (λ c. search) (λ c. search needs)
     (λ c. search) (λ c κs. tt) (λ c. search) (λ c. search) (λ c. search) (λ c. search) (λ c. search)
     (λ c. search by-word) (λ c. search by-word) (λ c. search by-word) (λ c. search by-word) (λ c. search by-word)
     (λ c. search by-word) (λ c. search by-word) (λ c. search by-word) (λ c. search by-word) (λ c. search by-word)

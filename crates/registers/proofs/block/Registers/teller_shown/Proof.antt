@@ -13,14 +13,11 @@ use Rattle.registers.proofs.block.Registers.teller_shown.Tie as tie
 by-word : (w v : Teller) (f : Facts) (r : Registers) (a : ℕ) → w ≡ v → a ≡ tellerShown v f r → a ≡ tellerShown w f r
 by-word w v f r a e h = rw e h
 
-returns-8 : tie.Need-returns-8
-returns-8 c = rw (c .version .ensures, c .before .line .ensures, c .before .before .enum-told8 .given .1)
-
 pub teller-shown-spec : {M : Type 1} → statement M
 teller-shown-spec =
     tie.close
-    (tie.spec
-    (λ c. search) (λ c. search) (λ c. search) (λ c. search) (λ c. search) (λ c κs. tt) (λ c. search) (λ c. search)
-    (λ c. search needs) (λ c. search) (λ c κs. tt) (λ c κs. tt) (λ c. search)
+    (tie.spec (λ c. search) (λ c. search) (λ c. search) (λ c. search) (λ c. search) (λ c κs. tt) (λ c. search) (λ c. search)
+    (λ c. search needs) (λ c. search) (λ c κs. tt) (λ c κs. tt) (λ c. search) (λ c. search by-word) (λ c. search by-word)
     (λ c. search by-word) (λ c. search by-word) (λ c. search by-word) (λ c. search by-word) (λ c. search by-word)
-    (λ c. search by-word) (λ c. search by-word) returns-8 (λ c. search by-word))
+    (λ c. rw (c .version .ensures, c .before .line .ensures, c .before .before .enum-told8 .given .1))
+    (λ c. search by-word))

@@ -3,8 +3,5 @@
 use Rattle.registers.proofs.interrupt.Interrupts.clear.Statement.{statement}
 use Rattle.registers.proofs.interrupt.Interrupts.clear.Tie as tie
 
-returns : tie.Need-returns
-returns c = rw (c .acknowledge .ensures, c .before .event-set .ensures)
-
 pub clear-spec : {M : Type 1} → statement M
-clear-spec = tie.close (tie.spec (λ c κs. tt) (λ c κs. tt) returns)
+clear-spec = tie.close (tie.spec (λ c κs. tt) (λ c κs. tt) (λ c. rw (c .acknowledge .ensures, c .before .event-set .ensures)))

@@ -3,8 +3,8 @@
 use Rattle.registers.proofs.interrupt.Interrupts.enable.Statement.{statement}
 use Rattle.registers.proofs.interrupt.Interrupts.enable.Tie as tie
 
-returns : tie.Need-returns
-returns c = rw (c .less2 .ensures, c .before .less .ensures, c .before .before .stored-word .ensures)
-
 pub enable-spec : {M : Type 1} → statement M
-enable-spec = tie.close (tie.spec (λ c κs. tt) (λ c κs. tt) (λ c κs. tt) returns)
+enable-spec =
+    tie.close
+    (tie.spec (λ c κs. tt) (λ c κs. tt) (λ c κs. tt)
+    (λ c. rw (c .less2 .ensures, c .before .less .ensures, c .before .before .stored-word .ensures)))

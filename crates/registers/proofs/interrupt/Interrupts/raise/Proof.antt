@@ -3,8 +3,5 @@
 use Rattle.registers.proofs.interrupt.Interrupts.raise.Statement.{statement}
 use Rattle.registers.proofs.interrupt.Interrupts.raise.Tie as tie
 
-returns : tie.Need-returns
-returns c = rw (c .set .ensures, c .before .event-set .ensures)
-
 pub raise-spec : {M : Type 1} → statement M
-raise-spec = tie.close (tie.spec (λ c κs. tt) (λ c κs. tt) returns)
+raise-spec = tie.close (tie.spec (λ c κs. tt) (λ c κs. tt) (λ c. rw (c .set .ensures, c .before .event-set .ensures)))

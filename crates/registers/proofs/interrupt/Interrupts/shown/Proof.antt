@@ -4,9 +4,6 @@ use Rattle.registers.specs.Interrupt.{shownStatus}
 use Rattle.registers.proofs.interrupt.Interrupts.shown.Statement.{statement}
 use Rattle.registers.proofs.interrupt.Interrupts.shown.Tie as tie
 
-returns : tie.Need-returns
-unfolding shownStatus
-returns c = rw (c .error-bit .ensures, c .before .before .card-bit .ensures)
-
 pub shown-spec : {M : Type 1} → statement M
-shown-spec = tie.close (tie.spec (λ c κs. tt) (λ c κs. tt) returns)
+unfolding shownStatus
+shown-spec = tie.close (tie.spec (λ c κs. tt) (λ c κs. tt) (λ c. rw (c .error-bit .ensures, c .before .before .card-bit .ensures)))

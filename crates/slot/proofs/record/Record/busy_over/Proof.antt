@@ -1,5 +1,4 @@
--- `Record::busy_over` meets its contract: the slot that is spelled makes the step.
--- Assumes nothing.
+-- `Record::busy_over` meets its contract: the slot that is spelled makes the step. Assumes nothing.
 use Rattle.slot.proofs.record.Record.busy_over.Statement.{statement}
 use Rattle.slot.proofs.record.Record.busy_over.Tie as tie
 

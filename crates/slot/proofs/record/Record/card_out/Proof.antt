@@ -1,5 +1,4 @@
--- `Record::card_out` meets its contract: the slot that is spelled makes the step.
--- Assumes nothing.
+-- `Record::card_out` meets its contract: the slot that is spelled makes the step. Assumes nothing.
 use Rattle.slot.proofs.record.Record.card_out.Statement.{statement}
 use Rattle.slot.proofs.record.Record.card_out.Tie as tie
 

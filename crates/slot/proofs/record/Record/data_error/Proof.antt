@@ -1,5 +1,4 @@
--- `Record::data_error` meets its contract: the slot that is spelled makes the step.
--- Assumes nothing.
+-- `Record::data_error` meets its contract: the slot that is spelled makes the step. Assumes nothing.
 use Rattle.slot.proofs.record.Record.«data_error».Statement.{statement}
 use Rattle.slot.proofs.record.Record.«data_error».Tie as tie
 

@@ -1,5 +1,4 @@
--- `Record::given` meets its contract: the slot that is spelled makes the step.
--- Assumes nothing.
+-- `Record::given` meets its contract: the slot that is spelled makes the step. Assumes nothing.
 use Rattle.slot.proofs.record.Record.given.Statement.{statement}
 use Rattle.slot.proofs.record.Record.given.Tie as tie
 

@@ -1,5 +1,4 @@
--- `Record::line` meets its contract: the line is that of the slot that is spelled.
--- Assumes nothing.
+-- `Record::line` meets its contract: the line is that of the slot that is spelled. Assumes nothing.
 use Rattle.slot.proofs.record.Record.line.Statement.{statement}
 use Rattle.slot.proofs.record.Record.line.Tie as tie
 

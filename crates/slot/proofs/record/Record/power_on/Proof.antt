@@ -1,5 +1,4 @@
--- `Record::power_on` meets its contract: the record of the slot at power-on.
--- Assumes nothing.
+-- `Record::power_on` meets its contract: the record of the slot at power-on. Assumes nothing.
 use Rattle.slot.proofs.record.Record.power_on.Statement.{statement}
 use Rattle.slot.proofs.record.Record.power_on.Tie as tie
 

@@ -1,5 +1,4 @@
--- `Record::respond` meets its contract: the slot that is spelled makes the step.
--- Assumes nothing.
+-- `Record::respond` meets its contract: the slot that is spelled makes the step. Assumes nothing.
 use Rattle.slot.proofs.record.Record.respond.Statement.{statement}
 use Rattle.slot.proofs.record.Record.respond.Tie as tie
 

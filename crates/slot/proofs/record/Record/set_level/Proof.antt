@@ -1,5 +1,4 @@
--- `Record::set_level` meets its contract: the slot that is spelled makes the step.
--- Assumes nothing.
+-- `Record::set_level` meets its contract: the slot that is spelled makes the step. Assumes nothing.
 use Rattle.slot.proofs.record.Record.set_level.Statement.{statement}
 use Rattle.slot.proofs.record.Record.set_level.Tie as tie
 

@@ -1,5 +1,4 @@
--- `Record::slot` meets its contract: the callees give the two sides.
--- Assumes nothing.
+-- `Record::slot` meets its contract: the callees give the two sides. Assumes nothing.
 use Rattle.slot.proofs.record.Record.slot.Statement.{statement}
 use Rattle.slot.proofs.record.Record.slot.Tie as tie
 

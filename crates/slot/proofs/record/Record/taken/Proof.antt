@@ -1,5 +1,4 @@
--- `Record::taken` meets its contract: the slot that is spelled makes the step.
--- Assumes nothing.
+-- `Record::taken` meets its contract: the slot that is spelled makes the step. Assumes nothing.
 use borrow.Author.Needs.{needs}
 use Rattle.slot.proofs.record.Record.taken.Statement.{statement}
 use Rattle.slot.proofs.record.Record.taken.Tie as tie

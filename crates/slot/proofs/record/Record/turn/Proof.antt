@@ -1,5 +1,4 @@
--- `Record::turn` meets its contract: the slot that is spelled makes the step.
--- Assumes nothing.
+-- `Record::turn` meets its contract: the slot that is spelled makes the step. Assumes nothing.
 use borrow.Author.Needs.{needs}
 use Rattle.slot.proofs.record.Record.turn.Statement.{statement}
 use Rattle.slot.proofs.record.Record.turn.Tie as tie

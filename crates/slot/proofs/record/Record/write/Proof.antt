@@ -1,5 +1,4 @@
--- `Record::write` meets its contract: the slot that is spelled makes the step.
--- Assumes nothing.
+-- `Record::write` meets its contract: the slot that is spelled makes the step. Assumes nothing.
 use Rattle.slot.proofs.record.Record.write.Statement.{statement}
 use Rattle.slot.proofs.record.Record.write.Tie as tie
 
