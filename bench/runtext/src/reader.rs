@@ -121,7 +121,7 @@ fn access(word: &str) -> Result<(u16, u8), String> {
         .split_once('/')
         .ok_or(format!("expected OFFSET/WIDTH, found `{word}`"))?;
     let offset = names::offset(place).ok_or(format!(
-        "expected a register's name or an offset in hex such as 02Ch, found `{place}`"
+        "expected a register's name or an offset in hex up to 0FFFFh, such as 02Ch, found `{place}`"
     ))?;
     let width = number(width, "a width", u8::MAX as u32)? as u8;
     Ok((offset, width))
@@ -165,7 +165,10 @@ fn raw(words: &[&str]) -> Result<Step, String> {
         return Err("expected `raw KIND DETAIL OFFSET W1 W2 W3 W4`".to_string());
     };
     if given.len() != 4 {
-        return Err(format!("expected four words, found {}", given.len()));
+        return Err(format!(
+            "expected `raw KIND DETAIL OFFSET W1 W2 W3 W4`, seven numbers, found {}",
+            words.len()
+        ));
     }
     let mut step = kinds::plain(number(kind, "a kind", u8::MAX as u32)? as u8);
     step.detail = number(detail, "a detail", u8::MAX as u32)? as u8;
@@ -193,7 +196,7 @@ fn number(word: &str, what: &str, most: u32) -> Result<u32, String> {
     number::read(word)
         .filter(|value| *value <= most)
         .ok_or(format!(
-            "expected {what} up to {}, found `{word}`",
+            "expected {what} up to {}, in decimal or in hex as 0Fh or 0x0F, found `{word}`",
             number::show(most)
         ))
 }

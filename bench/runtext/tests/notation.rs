@@ -168,8 +168,12 @@ fn wrong_lines_are_named_with_what_was_expected() {
         ("write 02Ch/2", "expected a place and a value"),
         ("write 02Ch 5", "expected OFFSET/WIDTH"),
         ("write 10/2 5", "offset in hex"),
-        ("write clock/256 5", "a width up to 0FFh, found `256`"),
-        ("write clock/2 5g", "a value up to 0FFFFFFFFh, found `5g`"),
+        (
+            "write clock/256 5",
+            "a width up to 0FFh, in decimal or in hex",
+        ),
+        ("write clock/2 5g", "as 0Fh or 0x0F, found `5g`"),
+        ("read 10000h/4", "up to 0FFFFh"),
         ("read 024h/4 5", "a place alone"),
         ("response", "expected good, timeout"),
         ("response fine", "expected good, timeout"),
@@ -180,7 +184,7 @@ fn wrong_lines_are_named_with_what_was_expected() {
         ("in 1", "found `in 1`"),
         ("raw 1 2", "raw KIND DETAIL OFFSET"),
         ("raw 256 0 0 0 0 0 0", "a kind up to 0FFh"),
-        ("raw 1 0 0 0 0 0", "four words, found 3"),
+        ("raw 1 0 0 0 0 0", "seven numbers, found 6"),
         ("memory 1", "two hex digits"),
         ("card zeros 16385", "at most 16384 bytes of card"),
     ];

@@ -4,6 +4,7 @@ pub mod Causes
 pub mod Effects
 pub mod Given
 pub mod Plain
+pub mod Halting
 pub mod Numbers
 pub mod Refused
 pub mod Exactly

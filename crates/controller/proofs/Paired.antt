@@ -28,7 +28,7 @@ quiet n a = absurd (false≢true (sym n ∙ a))
 pub paired-start : Paired powerOn
 paired-start = record { own = quiet refl; plugged = quiet refl }
 
--- "Halted means only a reset frees it"
+-- what is halted awaits no response
 halted-quiet : (d : Dat) → awaiting (haltedDat d) ≡ false
 halted-quiet dat.Free = refl
 halted-quiet (dat.Busy answered) = refl

@@ -59,10 +59,10 @@ abbrev pub passedAs : Slot → Passed → Stepped
 passedAs s p = cond (isDone (p .answer)) (steppedAs (p .answer) (passedOf s (p .dat) (p .outcome))) (steppedAs (p .answer) s)
 
 abbrev pub givenOf : Slot → List ℕ → List ℕ → Stepped × List ℕ
-givenOf s x bytes = let r = block.givenOf (s .dat) x bytes in (passedAs s (r .0), r .1)
+givenOf s buffer bytes = let r = block.givenOf (s .dat) buffer bytes in (passedAs s (r .0), r .1)
 
 abbrev pub takenOf : Slot → List ℕ → List ℕ → Stepped × List ℕ
-takenOf s x room = let r = block.takenOf (s .dat) x room in (passedAs s (r .0), r .1)
+takenOf s buffer room = let r = block.takenOf (s .dat) buffer room in (passedAs s (r .0), r .1)
 
 -- ---- busy over and data errors
 
@@ -103,4 +103,4 @@ turnedOf s t =
     steppedAs (t .answer) (withSides s (outcomeAt (t .outcome) (ringAt (t .int) (withLow (s .registers) (t .table)))) (s .command) (t .dat))
 
 abbrev pub turnOf : Slot → List ℕ → List ℕ → Stepped × List ℕ × List ℕ
-turnOf s x mem = let r = engine.turnOf (s .dat) (s .registers .adma .low) x mem in (turnedOf s (r .0), r .1, r .2)
+turnOf s buffer mem = let r = engine.turnOf (s .dat) (s .registers .adma .low) buffer mem in (turnedOf s (r .0), r .1, r .2)

@@ -4,5 +4,6 @@ pub mod Access
 pub mod Card
 pub mod Data
 pub mod Steps
+pub mod Halting
 pub mod Rows
 pub mod Bench

@@ -1,10 +1,11 @@
 // The DAT side: blocks, busy over, data errors, turns.
 ghost use mathlib.Core.Path.{_≡_};
-ghost use Rattle.controller.specs.Data.{countsOf, fallenBlock, countedDown, outcomeAt, ringAt, passedOf, givenOf, takenOf, raisedStep, busyOver, dataEvent, dataError, turnOf};
+ghost use Rattle.controller.specs.Data.{countsOf, fallenBlock, countedDown, outcomeAt, ringAt, passedOf, passedAs, givenOf, takenOf, raisedStep, busyOver, dataEvent, dataError, turnOf};
 use crate::slot::Slot;
 use crate::slot::Stepped;
 use crate::slot::gives;
 use crate::slot::raised_at;
+use engine::block::Passed;
 use engine::transfer::Dat;
 use engine::transfer::Outcome;
 use registers::block::Registers;
@@ -93,12 +94,10 @@ impl Slot {
         self.with_sides(r, command, dat)
     }
 
-    // The card gives a block.
-    pub fn given(self, buffer: &mut [u8], bytes: &[u8]) -> Stepped
-        ensures { λ r. ⌜ (r, now (buffer .exit)) ≡ givenOf self (now (buffer .entry)) (now (bytes .entry)) ⌝ }
+    // The answer to a block event, and the slot after it: as it was where the event is refused.
+    fn block_passed(self, got: Passed) -> Stepped
+        ensures { λ r. ⌜ r ≡ passedAs self got ⌝ }
     {
-        let before = self.dat;
-        let got = before.given(buffer, bytes);
         let answer = got.answer;
         let dat = got.dat;
         let outcome = got.outcome;
@@ -109,20 +108,20 @@ impl Slot {
         }
     }
 
+    // The card gives a block.
+    pub fn given(self, buffer: &mut [u8], bytes: &[u8]) -> Stepped
+        ensures { λ r. ⌜ (r, now (buffer .exit)) ≡ givenOf self (now (buffer .entry)) (now (bytes .entry)) ⌝ }
+    {
+        let dat = self.dat;
+        self.block_passed(dat.given(buffer, bytes))
+    }
+
     // The card takes a block, into the first bytes of the lent room.
     pub fn taken(self, buffer: &[u8], room: &mut [u8]) -> Stepped
         ensures { λ r. ⌜ (r, now (room .exit)) ≡ takenOf self (now (buffer .entry)) (now (room .entry)) ⌝ }
     {
-        let before = self.dat;
-        let got = before.taken(buffer, room);
-        let answer = got.answer;
-        let dat = got.dat;
-        let outcome = got.outcome;
-        if answer.number() == 0 {
-            gives(answer, self.passed(dat, outcome))
-        } else {
-            gives(answer, self)
-        }
+        let dat = self.dat;
+        self.block_passed(dat.taken(buffer, room))
     }
 
     // The DAT side is as given, and an event is raised.

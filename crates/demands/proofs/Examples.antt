@@ -22,6 +22,7 @@ use Rattle.registers.specs.Access as access
 use Rattle.engine.specs.Transfer.{ending, settled, issued}
 use Rattle.engine.specs.Turn.{seen, further, doneRest, movingOf, runningOf, stagedOf}
 use Rattle.engine.specs.Block.{mayGive, giveOf, mayTake, takeOf}
+use Rattle.engine.specs.Demand.{Uncovered}
 use Rattle.engine.specs.declared.transfer.Way.{Way}
 use Rattle.engine.specs.declared.transfer.Way.the-variants.{Read, Write}
 use Rattle.engine.specs.declared.transfer.Dat.{Dat}
@@ -36,7 +37,7 @@ use Rattle.controller.specs.declared.slot.Command.the-variants.{Idle, Waits}
 use Rattle.controller.specs.declared.slot.Kind.the-variants.{Short}
 use Rattle.controller.proofs.Example.{start, steps}
 use Rattle.demands.specs.Run.{deeds, reached, turnsDone, passed}
-use Rattle.demands.specs.Issued.{Issued, traceAt}
+use Rattle.demands.specs.Issued.{Issued, wayOf, traceAt}
 use Rattle.demands.specs.Granted.{Granted, AllFair}
 use Rattle.demands.proofs.Whole.{demand-3-whole}
 
@@ -131,6 +132,19 @@ read-begins mem =
 not-limit : (k : Kind) (n : ℕ) → kindOf k ≡ n → n < 2 → k ≢ limit
 not-limit k n e h f = omega (arith, ap kindOf f)
 
+-- what demand 3 asks of such a command, a memory, and a table of one line that ends well or in an error
+granted : (order : ℕ) (way : Way) (mem : List ℕ) (n : ℕ) → Issued (after order way mem) → length mem ≤ 16777216
+    → kindOf (traceAt (after order way mem) 1 .kind) ≡ n → n < 2 → Uncovered (wayOf (after order way mem)) (traceAt (after order way mem) 1)
+    → Granted (after order way mem) 1
+granted order way mem n begins small kind ends clear =
+    record {
+      issued = begins;
+      buffer = omega (arith, length-replicate {A = ℕ} 512 0);
+      permitted = small;
+      reaches = not-limit (traceAt (after order way mem) 1 .kind) n kind ends;
+      clear = clear;
+    }
+
 -- ---- what is seen after a run
 
 -- the DAT side, 030h with 032h above it, 054h, the line, memory, and the bytes that have passed
@@ -180,14 +194,7 @@ write-paper = (refl, refl)
 -- what demand 3 asks of a command, its table and the memory
 pub write-granted : Granted write-issued 1
 unfolding requestOf tables
-write-granted =
-    record {
-      issued = write-begins (memory 0x23 0x10);
-      buffer = omega (arith, length-replicate {A = ℕ} 512 0);
-      permitted = omega arith;
-      reaches = not-limit (traceAt write-issued 1 .kind) 0 refl (omega arith);
-      clear = tt;
-    }
+write-granted = granted 0x183A0001 Write _ 0 (write-begins _) (omega arith) refl (omega arith) tt
 
 -- and of every step
 pub write-fair : AllFair (deeds write-issued write-cleared)
@@ -226,14 +233,7 @@ fault-steps = good ∷ turn ∷ turn ∷ []
 -- what demand 3 asks of a command, its table and the memory
 pub fault-granted : Granted fault-issued 1
 unfolding requestOf tables
-fault-granted =
-    record {
-      issued = write-begins (memory 0x22 0x10);
-      buffer = omega (arith, length-replicate {A = ℕ} 512 0);
-      permitted = omega arith;
-      reaches = not-limit (traceAt fault-issued 1 .kind) 1 refl (omega arith);
-      clear = tt;
-    }
+fault-granted = granted 0x183A0001 Write _ 1 (write-begins _) (omega arith) refl (omega arith) tt
 
 -- and of every step
 pub fault-fair : AllFair (deeds fault-issued fault-steps)
@@ -252,14 +252,7 @@ not-valid rest = go (leb 8 (suc (length rest))) (eqb (suc (length (take 7 rest))
 
 pub largest-granted : (rest : List ℕ) → length rest < 16777216 → Granted (after 0x183A0001 Write (0 ∷ rest)) 1
 unfolding requestOf traceOf along fetchOf
-largest-granted rest h =
-    record {
-      issued = write-begins (0 ∷ rest);
-      buffer = omega (arith, length-replicate {A = ℕ} 512 0);
-      permitted = omega arith;
-      reaches = not-limit (traceAt (after 0x183A0001 Write (0 ∷ rest)) 1 .kind) 1 (rw (not-valid rest)) (omega arith);
-      clear = tt;
-    }
+largest-granted rest h = granted 0x183A0001 Write _ 1 (write-begins _) (omega arith) (rw (not-valid rest)) (omega arith) tt
 
 -- it halts with 01h in 054h, the ADMA error stands, and the paper's settings do not signal it
 pub fault-ends : viewAfter fault-issued fault-steps
@@ -283,14 +276,7 @@ read-steps = data-error 0 ∷ write 0x004 2 0x4 ∷ good ∷ level true ∷ turn
 -- what demand 3 asks of a command, its table and the memory: the line's eight bytes at 0 lie apart from its data at 10h
 pub read-granted : Granted read-issued 1
 unfolding requestOf tables
-read-granted =
-    record {
-      issued = read-begins (memory 0x23 0x10);
-      buffer = omega (arith, length-replicate {A = ℕ} 512 0);
-      permitted = omega arith;
-      reaches = not-limit (traceAt read-issued 1 .kind) 0 refl (omega arith);
-      clear = ((inl (omega arith), tt), tt);
-    }
+read-granted = granted 0x113A0011 Read _ 0 (read-begins _) (omega arith) refl (omega arith) ((inl (omega arith), tt), tt)
 
 -- and of every step
 pub read-fair : AllFair (deeds read-issued read-steps)

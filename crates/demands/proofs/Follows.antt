@@ -21,6 +21,7 @@ use Rattle.engine.specs.declared.transfer.Dat.the-variants.{Free, Busy, Runs, S
 use Rattle.engine.specs.declared.transfer.Outcome.{Outcome}
 use Rattle.engine.specs.declared.transfer.Outcome.the-variants.{Goes, Completes, Fails}
 use Rattle.engine.specs.declared.block.Passed.{Passed}
+use Rattle.engine.proofs.Worlds.{told-goes}
 use Rattle.controller.specs.Slot.{withSides, steppedAs, answeredDat}
 use Rattle.controller.specs.Card.{respondTo, respondOf}
 use Rattle.controller.specs.Data.{countsOf, countedDown, outcomeAt, ringAt, passedAs}
@@ -78,11 +79,6 @@ made w v d t x m (b, s, f, k) =
 lead-tells : (c : Command) (told : Outcome) (r : Registers) {d : Dat} {p : Passed} → Leads d p → Tells d c told (r .adma .fault)
     → Tells (p .dat) c (toldOf told (p .outcome)) (outcomeAt (p .outcome) r .adma .fault)
 lead-tells c told r (stays e) h = rw (told-goes told) h
-  where
-    told-goes : (o : Outcome) → toldOf o Goes ≡ o
-    told-goes Goes = refl
-    told-goes Completes = refl
-    told-goes (Fails state) = refl
 lead-tells c told r goes (b, s, f, k) = rw (s refl) (b, λ e. refl, λ state e. cc, refl)
 lead-tells c told r completes (b, s, f, k) = rw (s refl) (never, never, λ state e. cc, refl)
 lead-tells c told r fails (b, s, f, k) = rw (s refl) (never, never, λ state e. cc, refl)

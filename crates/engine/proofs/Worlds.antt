@@ -78,7 +78,7 @@ dat-counts t left owed held stage left′ owed′ held′ (Fail state) = refl
 
 -- ---- what is refused changes nothing
 
-told-goes : (o : Outcome) → toldOf o Goes ≡ o
+pub told-goes : (o : Outcome) → toldOf o Goes ≡ o
 told-goes Goes = refl
 told-goes Completes = refl
 told-goes (Fails state) = refl

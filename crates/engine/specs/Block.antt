@@ -38,34 +38,34 @@ writesOf Write = true
 -- ---- "Block given: running read, its response in, buffer empty, blocks left."
 
 unfoldable pub mayGive : Transfer → ℕ → Bool
-mayGive t room = readsOf (t .way) && (t .answered && (eqb (heldOf (t .size) room (t .held) .0) 0 && ltb 0 (t .left .0)))
+mayGive t lent = readsOf (t .way) && (t .answered && (eqb (heldOf (t .size) lent (t .held) .0) 0 && ltb 0 (t .left .0)))
 
 -- the block fills the buffer from the front, and one block less is left
 abbrev pub gaveOf : Transfer → List ℕ → List ℕ → Passed × List ℕ
-gaveOf t x block =
-    let full = blockOf (t .size) (length x) in (
+gaveOf t buffer block =
+    let full = blockOf (t .size) (length buffer) in (
       record { answer = Done (full .0); dat = Runs (withCounts t (fewer (t .left)) (t .owed) full (t .stage)); outcome = Goes },
-      paste x 0 block (full .0),
+      paste buffer 0 block (full .0),
     )
 
 -- "7 before 8"; 8: "block given of length other than the block size"
 unfoldable pub giveOf : Transfer → List ℕ → List ℕ → Passed × List ℕ
-giveOf t x block =
-    cond (mayGive t (length x))
-    (cond (eqb (length block) (blockOf (t .size) (length x) .0)) (gaveOf t x block) (keptAs (Runs t) WrongLength, x))
-    (keptAs (Runs t) OutOfTurn, x)
+giveOf t buffer block =
+    cond (mayGive t (length buffer))
+    (cond (eqb (length block) (blockOf (t .size) (length buffer) .0)) (gaveOf t buffer block) (keptAs (Runs t) WrongLength, buffer))
+    (keptAs (Runs t) OutOfTurn, buffer)
 
 abbrev pub givenOf : Dat → List ℕ → List ℕ → Passed × List ℕ
-givenOf Free x block = (keptAs Free OutOfTurn, x)
-givenOf (Busy answered) x block = (keptAs (Busy answered) OutOfTurn, x)
-givenOf (Runs t) x block = giveOf t x block
-givenOf Stuck x block = (keptAs Stuck OutOfTurn, x)
-givenOf (Halted way) x block = (keptAs (Halted way) OutOfTurn, x)
+givenOf Free buffer block = (keptAs Free OutOfTurn, buffer)
+givenOf (Busy answered) buffer block = (keptAs (Busy answered) OutOfTurn, buffer)
+givenOf (Runs t) buffer block = giveOf t buffer block
+givenOf Stuck buffer block = (keptAs Stuck OutOfTurn, buffer)
+givenOf (Halted way) buffer block = (keptAs (Halted way) OutOfTurn, buffer)
 
 -- ---- "Block taken: running write, buffer full; it fills the first bytes of the lent room."
 
 unfoldable pub mayTake : Transfer → ℕ → Bool
-mayTake t room = writesOf (t .way) && eqb (heldOf (t .size) room (t .held) .0) (blockOf (t .size) room .0)
+mayTake t lent = writesOf (t .way) && eqb (heldOf (t .size) lent (t .held) .0) (blockOf (t .size) lent .0)
 
 -- where the transfer is once the buffer is empty: a stopped engine with no block left is complete. "nothing owed" is not asked again: only `settled`
 -- with nothing owed stops an engine
@@ -76,23 +76,23 @@ emptiedOf Stopped left = endingOf left (bytes 0)
 
 -- the block goes to the room's first bytes, and one block less is left
 abbrev pub tookOf : Transfer → List ℕ → List ℕ → Passed × List ℕ
-tookOf t x room =
-    let full = blockOf (t .size) (length x) in
+tookOf t buffer room =
+    let full = blockOf (t .size) (length buffer) in
     let next = emptiedOf (t .stage) (fewer (t .left)) in (
       record { answer = Done (full .0); dat = datOf t (fewer (t .left)) (t .owed) (bytes 0) next; outcome = outcomeOf next },
-      paste room 0 x (full .0),
+      paste room 0 buffer (full .0),
     )
 
 -- "7 before 8"; 8: "room for a taken block below it"
 unfoldable pub takeOf : Transfer → List ℕ → List ℕ → Passed × List ℕ
-takeOf t x room =
-    cond (mayTake t (length x))
-    (cond (ltb (length room) (blockOf (t .size) (length x) .0)) (keptAs (Runs t) WrongLength, room) (tookOf t x room))
+takeOf t buffer room =
+    cond (mayTake t (length buffer))
+    (cond (ltb (length room) (blockOf (t .size) (length buffer) .0)) (keptAs (Runs t) WrongLength, room) (tookOf t buffer room))
     (keptAs (Runs t) OutOfTurn, room)
 
 abbrev pub takenOf : Dat → List ℕ → List ℕ → Passed × List ℕ
-takenOf Free x room = (keptAs Free OutOfTurn, room)
-takenOf (Busy answered) x room = (keptAs (Busy answered) OutOfTurn, room)
-takenOf (Runs t) x room = takeOf t x room
-takenOf Stuck x room = (keptAs Stuck OutOfTurn, room)
-takenOf (Halted way) x room = (keptAs (Halted way) OutOfTurn, room)
+takenOf Free buffer room = (keptAs Free OutOfTurn, room)
+takenOf (Busy answered) buffer room = (keptAs (Busy answered) OutOfTurn, room)
+takenOf (Runs t) buffer room = takeOf t buffer room
+takenOf Stuck buffer room = (keptAs Stuck OutOfTurn, room)
+takenOf (Halted way) buffer room = (keptAs (Halted way) OutOfTurn, room)

@@ -8,13 +8,13 @@ use Rattle.engine.specs.declared.transfer.Way.the-variants.{Read, Write}
 
 -- one block, and no more than the bytes that are lent for it
 abbrev pub blockOf : ℕ → ℕ → ByteCount
-blockOf size room = bytes (min size room)
+blockOf size lent = bytes (min size lent)
 
 -- the bytes that it holds, never more than a block
 abbrev pub heldOf : ℕ → ℕ → ByteCount → ByteCount
-heldOf size room held = least held (blockOf size room)
+heldOf size lent held = least held (blockOf size lent)
 
 -- "the buffer's room (write) or content (read)"
 abbrev pub readyOf : Way → ℕ → ℕ → ByteCount → ByteCount
-readyOf Write size room held = less (blockOf size room) (heldOf size room held)
-readyOf Read size room held = heldOf size room held
+readyOf Write size lent held = less (blockOf size lent) (heldOf size lent held)
+readyOf Read size lent held = heldOf size lent held

@@ -91,12 +91,12 @@ afterTurn w r =
 
 -- a block event, in which a block passes if it is accepted
 abbrev pub afterBlock : World → Passed → List ℕ → List ℕ → World
-afterBlock w r x block =
+afterBlock w r buffer block =
     record {
       dat = r .dat;
       table = w .table;
       told = toldOf (w .told) (r .outcome);
-      buffer = x;
+      buffer = buffer;
       memory = w .memory;
       passed = cond (isDone (r .answer)) (w .passed ++ block) (w .passed);
       rings = w .rings;

@@ -61,8 +61,8 @@ abbrev pub seenNext : Fetched → ByteCount → BlockCount → ByteCount → Nex
 seenNext f owed left held = seen f (owed .0) (left .0) (held .0)
 
 abbrev pub fetchedOf : Transfer → ℕ → Fetched → Turned
-fetchedOf t room f =
-    turnedAs t (t .owed) (t .held) (bytes 0) (seenTable f) (seenInt f) (seenNext f (t .owed) (t .left) (heldOf (t .size) room (t .held)))
+fetchedOf t lent f =
+    turnedAs t (t .owed) (t .held) (bytes 0) (seenTable f) (seenInt f) (seenNext f (t .owed) (t .left) (heldOf (t .size) lent (t .held)))
 
 -- ---- "with a Tran line in hand it moves"
 
@@ -84,20 +84,20 @@ doneInt rest int = doneRest (rest .0) int
 
 -- a write: bytes from an address go behind those held; what it then holds, and the buffer
 abbrev pub loadOf : Transfer → List ℕ → List ℕ → ℕ → ByteCount → ByteCount × List ℕ
-loadOf t x mem at count =
-    let held = heldOf (t .size) (length x) (t .held) in
-    (more held count, paste x (held .0) (drop (indexOf at) mem) (count .0))
+loadOf t buffer mem at count =
+    let held = heldOf (t .size) (length buffer) (t .held) in
+    (more held count, paste buffer (held .0) (drop (indexOf at) mem) (count .0))
 
 -- a read: the first bytes held go to an address (a block given lies at the front, so the bytes held are its last ones); what it then holds, and memory
 abbrev pub unloadOf : Transfer → List ℕ → List ℕ → ℕ → ByteCount → ByteCount × List ℕ
-unloadOf t x mem at count =
-    let held = heldOf (t .size) (length x) (t .held) in
-    (less held count, paste mem (indexOf at) (drop (blockOf (t .size) (length x) .0 - held .0) x) (count .0))
+unloadOf t buffer mem at count =
+    let held = heldOf (t .size) (length buffer) (t .held) in
+    (less held count, paste mem (indexOf at) (drop (blockOf (t .size) (length buffer) .0 - held .0) buffer) (count .0))
 
 -- what the buffer then holds, the buffer and memory
 abbrev pub carryOf : Way → Transfer → List ℕ → List ℕ → ℕ → ByteCount → ByteCount × List ℕ × List ℕ
-carryOf Write t x mem at count = let r = loadOf t x mem at count in (r .0, r .1, mem)
-carryOf Read t x mem at count = let r = unloadOf t x mem at count in (r .0, x, r .1)
+carryOf Write t buffer mem at count = let r = loadOf t buffer mem at count in (r .0, r .1, mem)
+carryOf Read t buffer mem at count = let r = unloadOf t buffer mem at count in (r .0, buffer, r .1)
 
 -- bytes of the line in hand are moved, and are owed no longer
 abbrev pub movedOf : Transfer → ℕ → ByteCount → ℕ → Bool → Bool → ByteCount → ByteCount × List ℕ × List ℕ → Turned × List ℕ × List ℕ
@@ -111,37 +111,37 @@ movedOf t table rest at last int count c =
 
 -- "if the memory lent now is too short for it, state 11 and nothing moves"
 abbrev pub reachOf : Transfer → ℕ → ByteCount → ℕ → Bool → Bool → List ℕ → List ℕ → ByteCount → Turned × List ℕ × List ℕ
-reachOf t table rest at last int x mem count =
-    cond (inMemory (length mem) at (count .0)) (movedOf t table rest at last int count (carryOf (t .way) t x mem at count))
-    (turnedAs t (t .owed) (t .held) (bytes 0) table false (Fail moveState), x, mem)
+reachOf t table rest at last int buffer mem count =
+    cond (inMemory (length mem) at (count .0)) (movedOf t table rest at last int count (carryOf (t .way) t buffer mem at count))
+    (turnedAs t (t .owed) (t .held) (bytes 0) table false (Fail moveState), buffer, mem)
 
 -- "Move: the smaller of the line's rest and the buffer's room (write) or content (read)"; 9: "a move due with the buffer full (write) or empty (read)"
 unfoldable pub movingOf : Transfer → ℕ → ByteCount → ℕ → Bool → Bool → List ℕ → List ℕ → Turned × List ℕ × List ℕ
-movingOf t table rest at last int x mem =
-    let ready = readyOf (t .way) (t .size) (length x) (t .held) in
-    cond (eqb (ready .0) 0) (refusedAs (Runs t) table NotYet, x, mem) (reachOf t table rest at last int x mem (least rest ready))
+movingOf t table rest at last int buffer mem =
+    let ready = readyOf (t .way) (t .size) (length buffer) (t .held) in
+    cond (eqb (ready .0) 0) (refusedAs (Runs t) table NotYet, buffer, mem) (reachOf t table rest at last int buffer mem (least rest ready))
 
 -- ---- the turn
 
 -- 9: "its response awaited"
 abbrev pub answeredOf : Bool → Transfer → ℕ → List ℕ → List ℕ → Turned × List ℕ × List ℕ → Turned × List ℕ × List ℕ
-answeredOf true t table x mem done = done
-answeredOf false t table x mem done = (refusedAs (Runs t) table NotYet, x, mem)
+answeredOf true t table buffer mem done = done
+answeredOf false t table buffer mem done = (refusedAs (Runs t) table NotYet, buffer, mem)
 
 -- a running transfer; 10: "engine stopped"
 unfoldable pub runningOf : Stage → Transfer → ℕ → List ℕ → List ℕ → Turned × List ℕ × List ℕ
-runningOf Stopped t table x mem = (refusedAs (Runs t) table NoTransfer, x, mem)
-runningOf Fetching t table x mem = answeredOf (t .answered) t table x mem (fetchedOf t (length x) (fetchOf mem table (t .owed)), x, mem)
-runningOf (Moving rest at last int) t table x mem = answeredOf (t .answered) t table x mem (movingOf t table rest at last int x mem)
+runningOf Stopped t table buffer mem = (refusedAs (Runs t) table NoTransfer, buffer, mem)
+runningOf Fetching t table buffer mem = answeredOf (t .answered) t table buffer mem (fetchedOf t (length buffer) (fetchOf mem table (t .owed)), buffer, mem)
+runningOf (Moving rest at last int) t table buffer mem = answeredOf (t .answered) t table buffer mem (movingOf t table rest at last int buffer mem)
 
 -- 10: "no transfer, a halted one"
 unfoldable pub stagedOf : Dat → ℕ → List ℕ → List ℕ → Turned × List ℕ × List ℕ
-stagedOf Free table x mem = (refusedAs Free table NoTransfer, x, mem)
-stagedOf (Busy answered) table x mem = (refusedAs (Busy answered) table NoTransfer, x, mem)
-stagedOf (Runs t) table x mem = runningOf (t .stage) t table x mem
-stagedOf Stuck table x mem = (refusedAs Stuck table NoTransfer, x, mem)
-stagedOf (Halted way) table x mem = (refusedAs (Halted way) table NoTransfer, x, mem)
+stagedOf Free table buffer mem = (refusedAs Free table NoTransfer, buffer, mem)
+stagedOf (Busy answered) table buffer mem = (refusedAs (Busy answered) table NoTransfer, buffer, mem)
+stagedOf (Runs t) table buffer mem = runningOf (t .stage) t table buffer mem
+stagedOf Stuck table buffer mem = (refusedAs Stuck table NoTransfer, buffer, mem)
+stagedOf (Halted way) table buffer mem = (refusedAs (Halted way) table NoTransfer, buffer, mem)
 
 -- "11, then 10, then 9"
 abbrev pub turnOf : Dat → ℕ → List ℕ → List ℕ → Turned × List ℕ × List ℕ
-turnOf d table x mem = cond (tooLarge mem) (refusedAs d table MemoryTooLarge, x, mem) (stagedOf d table x mem)
+turnOf d table buffer mem = cond (tooLarge mem) (refusedAs d table MemoryTooLarge, buffer, mem) (stagedOf d table buffer mem)

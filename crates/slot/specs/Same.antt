@@ -12,7 +12,7 @@ use Rattle.slot.specs.declared.step.Stepped.{Stepped}
 
 -- the world that a record spells, with the buffer and the memory beside it
 abbrev pub worldOf : Record → List ℕ → List ℕ → World
-worldOf r x mem = record { slot = slotOf r; buffer = x; memory = mem }
+worldOf r buffer mem = record { slot = slotOf r; buffer = buffer; memory = mem }
 
 -- what a step on a record gives: the record after it with its answer, the buffer, the memory, and the room of a taken block
 pub record Recorded : Type 0 where
@@ -23,22 +23,22 @@ pub record Recorded : Type 0 where
 
 -- a step that leaves buffer and memory alone
 abbrev pub plain : List ℕ → List ℕ → Stepped → Recorded
-plain x mem z = record { stepped = z; buffer = x; memory = mem; room = [] }
+plain buffer mem z = record { stepped = z; buffer = buffer; memory = mem; room = [] }
 
 -- the step of each entry on a record, with the buffer and the memory
 abbrev pub recordStep : Record → List ℕ → List ℕ → Step → Recorded
-recordStep r x mem (read offset width) = plain x mem (readOf r offset width)
-recordStep r x mem (write offset width value) = plain x mem (writeOf r offset width value)
-recordStep r x mem card-in = plain x mem (inOf r)
-recordStep r x mem card-out = plain x mem (outOf r)
-recordStep r x mem (response result w) = plain x mem (respondOf r result (w .first) (w .second) (w .third) (w .fourth))
-recordStep r x mem (block-given block) = let g = givenOf r x block in record { stepped = g .0; buffer = g .1; memory = mem; room = [] }
-recordStep r x mem (block-taken room) = let g = takenOf r x room in record { stepped = g .0; buffer = x; memory = mem; room = g .1 }
-recordStep r x mem busy-over = plain x mem (busyOver r)
-recordStep r x mem (data-error number) = plain x mem (dataError r number)
-recordStep r x mem (level true) = plain x mem (levelOf r 1)
-recordStep r x mem (level false) = plain x mem (levelOf r 0)
-recordStep r x mem turn = let g = turnOf r x mem in record { stepped = g .0; buffer = g .1; memory = g .2; room = [] }
+recordStep r buffer mem (read offset width) = plain buffer mem (readOf r offset width)
+recordStep r buffer mem (write offset width value) = plain buffer mem (writeOf r offset width value)
+recordStep r buffer mem card-in = plain buffer mem (inOf r)
+recordStep r buffer mem card-out = plain buffer mem (outOf r)
+recordStep r buffer mem (response result w) = plain buffer mem (respondOf r result (w .first) (w .second) (w .third) (w .fourth))
+recordStep r buffer mem (block-given block) = let g = givenOf r buffer block in record { stepped = g .0; buffer = g .1; memory = mem; room = [] }
+recordStep r buffer mem (block-taken room) = let g = takenOf r buffer room in record { stepped = g .0; buffer = buffer; memory = mem; room = g .1 }
+recordStep r buffer mem busy-over = plain buffer mem (busyOver r)
+recordStep r buffer mem (data-error number) = plain buffer mem (dataError r number)
+recordStep r buffer mem (level true) = plain buffer mem (levelOf r 1)
+recordStep r buffer mem (level false) = plain buffer mem (levelOf r 0)
+recordStep r buffer mem turn = let g = turnOf r buffer mem in record { stepped = g .0; buffer = g .1; memory = g .2; room = [] }
 
 -- a step on a record and a step of the controller give the same: the world after it, the room, the answer's number and its value
 pub record Agree (g : Recorded) (c : Result) : Type 0 where

@@ -59,10 +59,10 @@ abbrev pub dataError : Record → ℕ → Stepped
 dataError r number = spelled r (side.dataError (slotOf r) number)
 
 abbrev pub givenOf : Record → List ℕ → List ℕ → Stepped × List ℕ
-givenOf r x block = let g = side.givenOf (slotOf r) x block in (spelled r (g .0), g .1)
+givenOf r buffer block = let g = side.givenOf (slotOf r) buffer block in (spelled r (g .0), g .1)
 
 abbrev pub takenOf : Record → List ℕ → List ℕ → Stepped × List ℕ
-takenOf r x room = let g = side.takenOf (slotOf r) x room in (spelled r (g .0), g .1)
+takenOf r buffer room = let g = side.takenOf (slotOf r) buffer room in (spelled r (g .0), g .1)
 
 abbrev pub turnOf : Record → List ℕ → List ℕ → Stepped × List ℕ × List ℕ
-turnOf r x mem = let g = side.turnOf (slotOf r) x mem in (spelled r (g .0), g .1, g .2)
+turnOf r buffer mem = let g = side.turnOf (slotOf r) buffer mem in (spelled r (g .0), g .1, g .2)
