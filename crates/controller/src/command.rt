@@ -13,7 +13,7 @@ use terms::{Answer, BlockCount, ByteCount};
 pub const LARGEST: u16 = 512;
 
 // What a command asks for, by Command, Transfer Mode, Block Size, Block Count and DMA Select as they would stand.
-#[derive(Drop)]
+#[derive(Clone, Copy)]
 pub struct Request {
     pub kind: Kind,
     pub crc: bool,

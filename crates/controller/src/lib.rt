@@ -1,5 +1,7 @@
 // One slot by value: every entry of document 01. A step takes the slot and gives the answer and the slot after it; memory, the
 // one-block buffer and the room of a taken block are lent beside it.
+#![tactic(auto)]
+
 pub mod access;
 pub mod card;
 pub mod command;

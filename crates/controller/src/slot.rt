@@ -9,7 +9,7 @@ use registers::word::{Facts, Use};
 use terms::Answer;
 
 // The response types of a command, 00Eh bits 1-0: 00b, 01b, 10b and 11b.
-#[derive(Drop)]
+#[derive(Clone, Copy)]
 pub enum Kind {
     Silent,
     Long,
@@ -18,7 +18,7 @@ pub enum Kind {
 }
 
 // A command that waits: its response type, and the checks that its response goes through.
-#[derive(Drop)]
+#[derive(Clone, Copy)]
 pub struct Waiting {
     pub kind: Kind,
     pub crc: bool,
@@ -26,14 +26,14 @@ pub struct Waiting {
 }
 
 // The command side: free, a command that waits for its response, or halted.
-#[derive(Drop)]
+#[derive(Clone, Copy)]
 pub enum Command {
     Idle,
     Waits(Waiting),
     Halted,
 }
 
-#[derive(Drop)]
+#[derive(Clone, Copy)]
 pub struct Slot {
     pub registers: Registers,
     pub card: bool,
@@ -43,7 +43,7 @@ pub struct Slot {
 }
 
 // What an entry gives: the answer, and the slot after it.
-#[derive(Drop)]
+#[derive(Clone, Copy)]
 pub struct Stepped {
     pub answer: Answer,
     pub slot: Slot,

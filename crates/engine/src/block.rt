@@ -8,7 +8,7 @@ use crate::transfer::{Dat, Next, Outcome, Stage, Transfer, Way, ending, outcome_
 use terms::{Answer, BlockCount, ByteCount};
 
 // What a block event gives: the answer, the DAT side after it, and the end told.
-#[derive(Drop)]
+#[derive(Clone, Copy)]
 pub struct Passed {
     pub answer: Answer,
     pub dat: Dat,

@@ -5,14 +5,14 @@ ghost use Rattle.engine.specs.Transfer.{with_counts, ending_of, settled_of, dat_
 use terms::{BlockCount, ByteCount};
 
 // The way of a transfer: from the card to memory, or from memory to the card.
-#[derive(Drop)]
+#[derive(Clone, Copy)]
 pub enum Way {
     Read,
     Write,
 }
 
 // How the engine of a running transfer stands.
-#[derive(Drop)]
+#[derive(Clone, Copy)]
 pub enum Stage {
     // No line in hand.
     Fetching,
@@ -29,7 +29,7 @@ pub enum Stage {
 
 // A running transfer: what it was issued with, whether its response is in, the blocks not yet given or taken, the bytes not
 // yet moved, and the bytes that the buffer holds. `counted` says that Block Count counts its blocks.
-#[derive(Drop)]
+#[derive(Clone, Copy)]
 pub struct Transfer {
     pub way: Way,
     pub answered: bool,
@@ -43,7 +43,7 @@ pub struct Transfer {
 
 // The DAT side: free, busy by a command of response type 11b (awaited or in), in a running transfer, or halted, until a reset, in a busy or in a
 // transfer of which only the way is still shown.
-#[derive(Drop)]
+#[derive(Clone, Copy)]
 pub enum Dat {
     Free,
     Busy { answered: bool },
@@ -54,7 +54,7 @@ pub enum Dat {
 
 // Where a step leaves a transfer: about to fetch, with a line in hand, stopped with a block to go, complete, or failed with a
 // byte for 054h.
-#[derive(Drop)]
+#[derive(Clone, Copy)]
 pub enum Next {
     Fetch,
     Move {
@@ -69,7 +69,7 @@ pub enum Next {
 }
 
 // What a step tells of the end: nothing, Transfer Complete, or an error with its byte for 054h.
-#[derive(Drop)]
+#[derive(Clone, Copy)]
 pub enum Outcome {
     Goes,
     Completes,

@@ -13,7 +13,7 @@ use table::memory::{in_memory, too_large};
 use terms::{Answer, BlockCount, ByteCount};
 
 // What a turn gives: the answer, the DAT side and 058h after it, whether DMA Interrupt is raised, and the end told.
-#[derive(Drop)]
+#[derive(Clone, Copy)]
 pub struct Turned {
     pub answer: Answer,
     pub dat: Dat,

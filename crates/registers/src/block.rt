@@ -17,7 +17,7 @@ const CAPABILITIES: u32 = 0x010832B2;
 
 // 000h to 00Fh.
 #[repr(C)]
-#[derive(Drop)]
+#[derive(Clone, Copy)]
 pub struct Setup {
     pub system: u32,
     pub block: u32,
@@ -27,7 +27,7 @@ pub struct Setup {
 
 // 010h to 01Fh.
 #[repr(C)]
-#[derive(Drop)]
+#[derive(Clone, Copy)]
 pub struct Reply {
     pub first: u32,
     pub second: u32,
@@ -37,7 +37,7 @@ pub struct Reply {
 
 // 028h to 02Fh.
 #[repr(C)]
-#[derive(Drop)]
+#[derive(Clone, Copy)]
 pub struct Control {
     pub host: u32,
     pub clock: u32,
@@ -45,7 +45,7 @@ pub struct Control {
 
 // 054h to 05Fh.
 #[repr(C)]
-#[derive(Drop)]
+#[derive(Clone, Copy)]
 pub struct Adma {
     pub fault: u8,
     pub low: u32,
@@ -53,7 +53,7 @@ pub struct Adma {
 }
 
 #[repr(C)]
-#[derive(Drop)]
+#[derive(Clone, Copy)]
 pub struct Registers {
     pub setup: Setup,
     pub reply: Reply,

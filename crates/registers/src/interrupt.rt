@@ -8,7 +8,7 @@ use crate::word::stored_word;
 
 // What a step can raise. The list is closed: bit 8, which follows the card's level, and bit 15, which follows the errors, are
 // no events, and block gap and buffer port have none yet.
-#[derive(Drop)]
+#[derive(Clone, Copy)]
 pub enum Event {
     CommandComplete,
     TransferComplete,
@@ -27,7 +27,7 @@ pub enum Event {
 
 // 030h to 03Bh: Normal in the low half of each word, Error in the high half. Bits 8 and 15 of the status are derived.
 #[repr(C)]
-#[derive(Drop)]
+#[derive(Clone, Copy)]
 pub struct Interrupts {
     pub status: u32,
     pub enabled: u32,

@@ -6,7 +6,7 @@ ghost use Rattle.registers.specs.Place.{legal, word_at, place_of, edit_of, cut_o
 pub const LIMIT: u32 = 256;
 
 // A 32-bit word that takes writes; beside each name the registers in it.
-#[derive(Drop)]
+#[derive(Clone, Copy)]
 pub enum Taker {
     // 000h
     System,
@@ -35,7 +35,7 @@ pub enum Taker {
 }
 
 // A word that ignores writes.
-#[derive(Drop)]
+#[derive(Clone, Copy)]
 pub enum Teller {
     // 010h to 01Fh Response
     First,
@@ -54,28 +54,28 @@ pub enum Teller {
     Nothing,
 }
 
-#[derive(Drop)]
+#[derive(Clone, Copy)]
 pub enum Word {
     Takes(Taker),
     Tells(Teller),
 }
 
 // What an offset and a width name: bytes `lane` to `lane + width - 1` of a word, or no place.
-#[derive(Drop)]
+#[derive(Clone, Copy)]
 pub enum Place {
     Nowhere,
     Here { word: Word, lane: u32, width: u32 },
 }
 
 // What a write does to a word: the bits of the bytes it writes, and those among them that it sets.
-#[derive(Drop)]
+#[derive(Clone, Copy)]
 pub struct Edit {
     pub lanes: u32,
     pub bits: u32,
 }
 
 // What a write names: a word and what becomes of it, or no place.
-#[derive(Drop)]
+#[derive(Clone, Copy)]
 pub enum Target {
     Nowhere,
     At { word: Word, edit: Edit },

@@ -7,7 +7,7 @@ use crate::interrupt::Event;
 use crate::place::{Edit, touches_byte};
 
 // Which of the three bits a write sets.
-#[derive(Drop)]
+#[derive(Clone, Copy)]
 pub struct Resets {
     pub all: bool,
     pub command: bool,

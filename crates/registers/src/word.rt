@@ -6,7 +6,7 @@ use crate::bits::{less, replaced, unit};
 use crate::place::{Edit, is_guarded};
 
 // How the DAT side is used, running or halted.
-#[derive(Drop)]
+#[derive(Clone, Copy)]
 pub enum Use {
     Free,
     Busy,
@@ -16,7 +16,7 @@ pub enum Use {
 
 // What the block must be told: whether a command waits or is halted, the use of the DAT side, whether a card is in, and its
 // interrupt level.
-#[derive(Drop)]
+#[derive(Clone, Copy)]
 pub struct Facts {
     pub command: bool,
     pub dat: Use,

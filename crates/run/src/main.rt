@@ -1,6 +1,8 @@
 // Runs a run file and prints its output: the file that the one argument names, or standard input without one. All that matters
 // is proved in `runfile`; here bytes are only read and written.
 
+#![tactic(auto)]
+
 // The most bytes of a good file: three counts, 32,768 bytes of memory, 512 steps of 20, 16,384 card bytes.
 const LONGEST: usize = 59404;
 

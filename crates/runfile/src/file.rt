@@ -13,7 +13,7 @@ pub const CARD: u32 = 16384;
 pub const STEP: usize = 20;
 
 // How much each section has, or a file whose sections do not come out even.
-#[derive(Drop)]
+#[derive(Clone, Copy)]
 pub enum Layout {
     Bad,
     Good {
@@ -23,7 +23,7 @@ pub enum Layout {
     },
 }
 
-#[derive(Drop)]
+#[derive(Clone, Copy)]
 pub struct Step {
     pub kind: u8,
     pub detail: u8,

@@ -10,14 +10,14 @@ use registers::block::Reply;
 use terms::Answer;
 
 // A run between two steps: the slot, and how many of the card's bytes are used up.
-#[derive(Drop)]
+#[derive(Clone, Copy)]
 pub struct RunState {
     pub slot: Slot,
     pub used: usize,
 }
 
 // The answer to a step, and the run after it.
-#[derive(Drop)]
+#[derive(Clone, Copy)]
 pub struct StepDone {
     pub answer: Answer,
     pub state: RunState,
@@ -62,7 +62,7 @@ impl Step {
 }
 
 // The card's bytes within the file: where they begin, and how many they are. The caller has judged the file.
-#[derive(Drop)]
+#[derive(Clone, Copy)]
 pub struct CardBytes {
     pub base: usize,
     pub count: usize,
@@ -221,7 +221,7 @@ impl RunState {
 }
 
 // Where the text ends, and the run after it.
-#[derive(Drop)]
+#[derive(Clone, Copy)]
 pub struct RunDone {
     pub state: RunState,
     pub at: usize,

@@ -1,5 +1,7 @@
 // The record that a supervisor keeps for each slot, the entries that update it where it is kept, and the exports for C. A record is
 // numbers and nothing else, so every pattern of bytes is one; `record` says which state of the controller it spells.
+#![tactic(auto)]
+
 pub mod entry;
 pub mod lines;
 pub mod record;

@@ -10,7 +10,7 @@ use terms::ByteCount;
 
 // What a survey tells: its number, kind (0 well, 1 error, 2 limit), the 054h byte, lines tried, bytes named, the address after.
 #[repr(C)]
-#[derive(Drop)]
+#[derive(Clone, Copy)]
 pub struct Survey {
     pub number: u32,
     pub kind: u32,
@@ -22,7 +22,7 @@ pub struct Survey {
 
 // What the boot check tells: its number, and 1 for yes.
 #[repr(C)]
-#[derive(Drop)]
+#[derive(Clone, Copy)]
 pub struct Boot {
     pub number: u32,
     pub yes: u32,
@@ -30,7 +30,7 @@ pub struct Boot {
 
 // A line: its five flags, down at 0 and up at any other number, its length and its address.
 #[repr(C)]
-#[derive(Drop)]
+#[derive(Clone, Copy)]
 pub struct LinePart {
     pub valid: u8,
     pub end: u8,

@@ -12,7 +12,7 @@ use terms::{BlockCount, ByteCount};
 // The command side. `tag`: 0 idle, 1 waits, else halted; the rest tells of a command that waits, its response type as in 00Eh
 // bits 1-0 and its two checks.
 #[repr(C)]
-#[derive(Drop)]
+#[derive(Clone, Copy)]
 pub struct CommandPart {
     pub tag: u8,
     pub kind: u8,
@@ -23,7 +23,7 @@ pub struct CommandPart {
 // How the engine of a running transfer stands. `tag`: 0 no line in hand, 1 a line in hand, else stopped; the rest tells of that
 // line.
 #[repr(C)]
-#[derive(Drop)]
+#[derive(Clone, Copy)]
 pub struct StagePart {
     pub tag: u8,
     pub last: u8,
@@ -34,7 +34,7 @@ pub struct StagePart {
 
 // The DAT side. `tag`: 0 free, 1 busy, 2 a running transfer, 3 a halted busy, else a halted transfer. `way`: 0 read, else write.
 #[repr(C)]
-#[derive(Drop)]
+#[derive(Clone, Copy)]
 pub struct DatPart {
     pub tag: u8,
     pub way: u8,
@@ -49,7 +49,7 @@ pub struct DatPart {
 
 // One slot. A flag is down at 0 and up at any other number.
 #[repr(C)]
-#[derive(Drop)]
+#[derive(Clone, Copy)]
 pub struct Record {
     pub registers: Registers,
     pub card: u8,

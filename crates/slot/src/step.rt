@@ -12,7 +12,7 @@ use registers::block::Reply;
 
 // An answer as its number and its value.
 #[repr(C)]
-#[derive(Drop)]
+#[derive(Clone, Copy)]
 pub struct Answer {
     pub number: u32,
     pub value: u32,
@@ -20,7 +20,7 @@ pub struct Answer {
 
 // What a step gives: the record after it, and its answer.
 #[repr(C)]
-#[derive(Drop)]
+#[derive(Clone, Copy)]
 pub struct Stepped {
     pub after: Record,
     pub answer: Answer,

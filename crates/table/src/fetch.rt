@@ -17,7 +17,7 @@ pub const MOVE: u8 = 3;
 pub const MISMATCH: u8 = 4;
 
 // What a fetch finds; `next` is the address that 058h then holds.
-#[derive(Drop)]
+#[derive(Clone, Copy)]
 pub enum Fetched {
     // An error, with its byte for 054h.
     Fault {

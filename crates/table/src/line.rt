@@ -10,7 +10,7 @@ use terms::ByteCount;
 pub const SIZE: u32 = 8;
 
 // The five flags of byte 0.
-#[derive(Drop)]
+#[derive(Clone, Copy)]
 pub struct Flags {
     pub valid: bool,
     pub end: bool,
@@ -20,7 +20,7 @@ pub struct Flags {
 }
 
 // What a line says: its flags, how many bytes it names, and an address.
-#[derive(Drop)]
+#[derive(Clone, Copy)]
 pub struct Line {
     pub flags: Flags,
     pub length: ByteCount,
@@ -28,7 +28,7 @@ pub struct Line {
 }
 
 // What a line asks for: bytes moved, a jump to another line, or only a step to the next.
-#[derive(Drop)]
+#[derive(Clone, Copy)]
 pub enum Act {
     Tran,
     Link,

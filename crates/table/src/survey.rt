@@ -15,7 +15,7 @@ pub const LINES: u32 = 4096;
 pub const DEFAULT: u32 = 64;
 
 // What a survey finds: kind 0 well, 1 error, 2 limit; the 054h byte; lines tried; bytes named; the address after.
-#[derive(Drop)]
+#[derive(Clone, Copy)]
 pub struct Report {
     pub kind: u8,
     pub state: u8,
@@ -24,13 +24,13 @@ pub struct Report {
     pub after: u32,
 }
 
-#[derive(Drop)]
+#[derive(Clone, Copy)]
 pub struct Surveyed {
     pub answer: Answer,
     pub report: Report,
 }
 
-#[derive(Drop)]
+#[derive(Clone, Copy)]
 pub struct Booted {
     pub answer: Answer,
     pub yes: bool,

@@ -1,14 +1,16 @@
 // The paper's own words: two counters that never stand in for each other, and what a step answers.
+#![tactic(auto)]
+
 ghost use Rattle.std.specs.Prelude.{◌≡◌};
 ghost use Rattle.terms.specs.Counts.{times, fewer, less, least};
 ghost use Rattle.terms.specs.Answers.{number_of, value_of};
 
 // A count of blocks. Block Count, 006h, has 16 bits, and no transfer has more blocks.
-#[derive(Drop)]
+#[derive(Clone, Copy)]
 pub struct BlockCount(pub u16);
 
 // A count of bytes.
-#[derive(Drop)]
+#[derive(Clone, Copy)]
 pub struct ByteCount(pub u32);
 
 impl BlockCount {
@@ -53,7 +55,7 @@ impl ByteCount {
 
 // What a step answers: one name for each row of the paper's table, 1 to 12 and 17. The numbers 13 to 16 belong to requests
 // that are not built; a name for one of them goes between `LimitTooHigh` and `LineRefused`.
-#[derive(Drop)]
+#[derive(Clone, Copy)]
 pub enum Answer {
     Done(u32),
     NoPlace,
