@@ -19,7 +19,7 @@ use Rattle.controller.proofs.Given.{Given, done, kept, given}
 
 -- "The power-on value of the whole register block": at start
 pub clean_start : Clean power_on.registers
-clean_start = reserved.clean-start
+clean_start = reserved.clean_start
 
 -- ---- single effects
 

@@ -199,7 +199,7 @@ reads : (w : Way) → reads_of w ≡ true → w ≡ Read
 reads Read e = refl
 reads Write e = absurd (false≢true e)
 
-pub gives_may : {room size : ℕ} {t : Transfer} → Gives room (Runs t) size → may_give t room ≡ true
+pub gives_may : {room : ℕ} {t : Transfer} {size : ℕ} → Gives room (Runs t) size → may_give t room ≡ true
 unfolding may_give
 gives_may (gives w a h l) = simp (w, a, eq-eqb _ _ h, lt-ltb _ _ l)
 
@@ -258,7 +258,7 @@ writes : (w : Way) → writes_of w ≡ true → w ≡ Write
 writes Read e = absurd (false≢true e)
 writes Write e = refl
 
-pub takes_may : {room size : ℕ} {t : Transfer} → Takes room (Runs t) size → may_take t room ≡ true
+pub takes_may : {room : ℕ} {t : Transfer} {size : ℕ} → Takes room (Runs t) size → may_take t room ≡ true
 unfolding may_take
 takes_may (takes w h) = simp (w, eq-eqb _ _ h)
 

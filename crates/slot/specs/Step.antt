@@ -50,10 +50,10 @@ abbrev pub level_of : Record → ℕ → Stepped
 level_of r up = spelled r (card.level_of (slot_of r) (flag_at up))
 
 abbrev pub busy_over : Record → Stepped
-busy_over r = spelled r (side.busyOver (slot_of r))
+busy_over r = spelled r (side.busy_over (slot_of r))
 
 abbrev pub data_error : Record → ℕ → Stepped
-data_error r number = spelled r (side.dataError (slot_of r) number)
+data_error r number = spelled r (side.data_error (slot_of r) number)
 
 abbrev pub given_of : Record → List ℕ → List ℕ → Stepped × List ℕ
 given_of r buffer block = let g = side.given_of (slot_of r) buffer block in (spelled r g.0, g.1)

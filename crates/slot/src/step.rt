@@ -115,13 +115,13 @@ impl Record {
     }
 
     pub fn busy_over(self) -> controller::slot::Stepped
-        ensures { result ≡ side.busyOver (slot_of self) }
+        ensures { result ≡ side.busy_over (slot_of self) }
     {
         self.slot().busy_over()
     }
 
     pub fn data_error(self, number: u32) -> controller::slot::Stepped
-        ensures { result ≡ side.dataError (slot_of self) number }
+        ensures { result ≡ side.data_error (slot_of self) number }
     {
         self.slot().data_error(number)
     }
