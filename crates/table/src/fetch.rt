@@ -85,6 +85,7 @@ fn tran(line: &[u8], next: u32, size: usize, owed: ByteCount) -> Fetched
 }
 
 // Fetches the line at an address. Every caller refuses too much memory first, with answer 11.
+#[tactic(auto, unfolding(crate::specs::Fetch::fetch_of))]
 pub fn fetch(mem: &[u8], at: u32, owed: ByteCount) -> Fetched
     requires { length mem.now ≤ memory_limit }
     ensures { result ≡ fetch_of mem.now at owed }

@@ -48,6 +48,7 @@ pub fn line_at(mem: &[u8], at: u32) -> &[u8]
 }
 
 // Byte i of a line; a part that is not of eight bytes reads as zeros. Only the readers below call it, with their own numbers.
+#[tactic(auto, unfolding(crate::specs::Line::byte_of))]
 fn byte(line: &[u8], i: usize) -> u8
     requires { i < 8 }
     ensures { result ≡ byte_of line.now i }
@@ -70,6 +71,7 @@ fn half(line: &[u8], i: usize) -> u16
 }
 
 // How many bytes a line names: 0 means 65,536.
+#[tactic(auto, unfolding(crate::specs::Line::length_of))]
 pub fn length_of(line: &[u8]) -> ByteCount
     ensures { result ≡ bytes (length_of line.now) }
 {
@@ -82,6 +84,7 @@ pub fn length_of(line: &[u8]) -> ByteCount
 }
 
 // The address that a line names, its low two bits taken as 0.
+#[tactic(auto, unfolding(crate::specs::Line::address_of))]
 pub fn address_of(line: &[u8]) -> u32
     ensures { result ≡ address_of line.now }
 {
@@ -91,6 +94,7 @@ pub fn address_of(line: &[u8]) -> u32
 }
 
 // The flags of a line.
+#[tactic(auto, unfolding(crate::specs::Line::flags_of))]
 pub fn flags_of(line: &[u8]) -> Flags
     ensures { result ≡ flags_of line.now }
 {
