@@ -1,5 +1,5 @@
 -- A run of a transfer: any list of the engine's own steps, on one lent memory. Assumes nothing: these are definitions.
-use Rattle.std.specs.Prelude.{ℕ, suc, ◌+◌, List, [], ◌∷◌, ◌++◌, Bool, true, false, cond, not, take, eqb}
+use Rattle.std.specs.Prelude.{ℕ, suc, ◌+◌, List, [], ◌∷◌, ◌++◌, Bool, false, cond, not, take}
 use Rattle.terms.specs.Answers.{value_of, isDone}
 use Rattle.terms.specs.declared.Answer.{Answer}
 use Rattle.table.specs.Trace.{ring_of}

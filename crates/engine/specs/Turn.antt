@@ -10,7 +10,7 @@ use Rattle.table.specs.Memory.{in_memory, index_of, too_large}
 use Rattle.table.specs.Fetch.{move_state, fetch_of}
 use Rattle.table.specs.declared.fetch.Fetched.{Fetched}
 use Rattle.table.specs.declared.fetch.Fetched.TheVariants.{Fault, Step, Data}
-use Rattle.engine.specs.Transfer.{settled, settled_of, dat_of, outcome_of}
+use Rattle.engine.specs.Transfer.{settled, dat_of, outcome_of}
 use Rattle.engine.specs.Buffer.{block_of, held_of, ready_of}
 use Rattle.engine.specs.declared.transfer.Way.{Way}
 use Rattle.engine.specs.declared.transfer.Way.TheVariants.{Read, Write}

@@ -49,6 +49,7 @@ fn emptied(stage: Stage, left: BlockCount) -> Next
 
 impl Transfer {
     // May the card give a block: a read, its response in, the buffer empty, blocks left?
+    #[tactic(auto, unfolding(crate::specs::Block::may_give))]
     fn may_give(self, room: usize) -> bool
         ensures { result ≡ may_give self room }
     {
@@ -67,6 +68,7 @@ impl Transfer {
     }
 
     // May the card take a block: a write, the buffer full?
+    #[tactic(auto, unfolding(crate::specs::Block::may_take))]
     fn may_take(self, room: usize) -> bool
         ensures { result ≡ may_take self room }
     {
@@ -118,6 +120,7 @@ impl Transfer {
         }
     }
 
+    #[tactic(auto, unfolding(crate::specs::Block::give_of))]
     fn give(self, buffer: &mut [u8], bytes: &[u8]) -> Passed
         ensures { (result, buffer.new) ≡ give_of self buffer.old bytes.now }
     {
@@ -132,6 +135,7 @@ impl Transfer {
         }
     }
 
+    #[tactic(auto, unfolding(crate::specs::Block::take_of))]
     fn take(self, buffer: &[u8], room: &mut [u8]) -> Passed
         ensures { (result, room.new) ≡ take_of self buffer.now room.old }
     {

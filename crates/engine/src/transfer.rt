@@ -77,6 +77,7 @@ pub enum Outcome {
 }
 
 // The engine has stopped with nothing owed: the transfer is complete, or a block is still to go.
+#[tactic(auto, unfolding(crate::specs::Transfer::ending))]
 pub(crate) fn ending(left: BlockCount, held: ByteCount) -> Next
     ensures { result ≡ ending_of left held }
 {
@@ -92,6 +93,7 @@ pub(crate) fn ending(left: BlockCount, held: ByteCount) -> Next
 }
 
 // A line is done.
+#[tactic(auto, unfolding(crate::specs::Transfer::settled))]
 pub(crate) fn settled(last: bool, owed: ByteCount, left: BlockCount, held: ByteCount) -> Next
     ensures { result ≡ settled_of last owed left held }
 {

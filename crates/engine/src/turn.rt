@@ -65,6 +65,7 @@ fn seen_int(seen: Fetched) -> bool
 }
 
 // Where a fetch leaves the transfer.
+#[tactic(auto, unfolding(crate::specs::Turn::seen))]
 fn seen_next(seen: Fetched, owed: ByteCount, left: BlockCount, held: ByteCount) -> Next
     ensures { result ≡ seen_next seen owed left held }
 {
@@ -91,6 +92,7 @@ fn seen_next(seen: Fetched, owed: ByteCount, left: BlockCount, held: ByteCount) 
 }
 
 // Where a move leaves the transfer, with so much of the line still to move.
+#[tactic(auto, unfolding(crate::specs::Turn::further))]
 fn onward(
     rest: ByteCount,
     at: u32,
@@ -115,6 +117,7 @@ fn onward(
 }
 
 // Is a line with Int done, now that so much of it is still to move?
+#[tactic(auto, unfolding(crate::specs::Turn::done_rest))]
 fn done_int(rest: ByteCount, int: bool) -> bool
     ensures { result ≡ done_int rest int }
 {
@@ -206,6 +209,7 @@ impl Transfer {
     }
 
     // A turn with a line in hand. `turn` has refused too much memory.
+    #[tactic(auto, unfolding(crate::specs::Turn::moving_of))]
     fn moving(
         self,
         table: u32,
@@ -255,6 +259,7 @@ impl Transfer {
     }
 
     // A turn of a running transfer: stopped, awaiting its response, or one that does something.
+    #[tactic(auto, unfolding(crate::specs::Turn::running_of))]
     fn turn(self, table: u32, buffer: &mut [u8], mem: &mut [u8]) -> Turned
         requires { length mem.old ≤ memory_limit }
         ensures { (result, buffer.new, mem.new) ≡ running_of self.stage self table buffer.old mem.old }
@@ -300,6 +305,7 @@ fn refused(dat: Dat, table: u32, answer: Answer) -> Turned
 
 impl Dat {
     // A turn, with 058h, the buffer and the lent memory.
+    #[tactic(auto, unfolding(crate::specs::Turn::staged_of))]
     pub fn turn(self, table: u32, buffer: &mut [u8], mem: &mut [u8]) -> Turned
         ensures { (result, buffer.new, mem.new) ≡ turn_of self table buffer.old mem.old }
     {

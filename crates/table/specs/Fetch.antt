@@ -1,5 +1,5 @@
 -- The fetch of one line (01 "Lines and turns", Fetch). Assumes nothing: these are definitions.
-use Rattle.std.specs.Prelude.{ℕ, ◌+◌, ◌*◌, List, cond, length, ltb}
+use Rattle.std.specs.Prelude.{ℕ, ◌+◌, List, cond, length, ltb}
 use Rattle.terms.specs.Counts.{bytes}
 use Rattle.terms.specs.declared.ByteCount.{ByteCount}
 use Rattle.table.specs.Memory.{in_memory}

@@ -7,5 +7,5 @@ use Rattle.table.proofs.fetch.fetch.Goals as goal
 pub overflow_add-next : goal.overflow_add-next
 overflow_add-next c =
     let there : c.args.at + line_size ≤ length c.args.mem.now =
-      line_there c.args.mem.now _ (rw (c.flags_of-flags.ensures, c.line_at-line.ensures) at c.if-flags.true) in
+    line_there c.args.mem.now _ (rw (c.flags_of-flags.ensures, c.line_at-line.ensures) at c.if-flags.true) in
     omega arith

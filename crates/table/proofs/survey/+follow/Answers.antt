@@ -1,5 +1,5 @@
 -- At each return `by_fetched` cites the definition's clause for the variant that was fetched; a sound line names no more bytes than are owed.
-use Rattle.std.proofs.Common.{rules, ◌≡◌, ◌+◌, ◌-◌, ◌≤◌, ℕ, List, Bool, true, false, cond, ap, arith}
+use Rattle.std.proofs.Common.{◌≡◌, ◌+◌, ◌-◌, ◌≤◌, ℕ, List, Bool, true, false, cond, ap, arith}
 use Rattle.terms.specs.declared.ByteCount.{ByteCount}
 use Rattle.table.specs.Fetch.{fetch_of}
 use Rattle.table.specs.Trace.{limit, trace_of}
