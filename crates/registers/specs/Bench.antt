@@ -5,7 +5,6 @@ use Rattle.terms.specs.Answers.{number_of, value_of}
 use Rattle.terms.specs.declared.Answer.{Answer}
 use Rattle.registers.specs.Block.{power_on}
 use Rattle.registers.specs.Access.{read_of, write_of}
-use Rattle.registers.specs.declared.word.Use.{Use}
 use Rattle.registers.specs.declared.word.Use.TheVariants.{Free, Write}
 use Rattle.registers.specs.declared.word.Facts.{Facts}
 

@@ -1,5 +1,5 @@
 -- "02Fh reads 0", and what its bits do to the block; the rest of their effect is the controller's. Assumes nothing: these are definitions.
-use Rattle.std.specs.Prelude.{ℕ, Bool, true, false, cond}
+use Rattle.std.specs.Prelude.{ℕ, false, cond}
 use Rattle.registers.specs.Bits.{bit_of}
 use Rattle.registers.specs.Place.{touches}
 use Rattle.registers.specs.Interrupt.{event_set, acknowledged}

@@ -270,6 +270,7 @@ impl Registers {
     }
 
     // A word as it reads.
+    #[tactic(auto, unfolding(crate::specs::Access::shown_of))]
     pub fn shown(self, word: Word, f: Facts) -> u32
         ensures { result ≡ shown_of word f self }
     {
@@ -280,6 +281,7 @@ impl Registers {
     }
 
     // The block after a write to a word that takes it. A command is issued elsewhere: here 00Ch to 00Fh only store.
+    #[tactic(auto, unfolding(crate::specs::Access::take_from))]
     fn take_from(self, word: Taker, e: Edit, inhibited: bool, card: bool) -> Registers
         ensures { result ≡ take_from word e inhibited card self }
     {
@@ -302,6 +304,7 @@ impl Registers {
     }
 
     // The block after a write to a word.
+    #[tactic(auto, unfolding(crate::specs::Access::take_of))]
     pub fn take(self, word: Word, e: Edit, f: Facts) -> Registers
         ensures { result ≡ take_of word e f self }
     {
@@ -313,6 +316,7 @@ impl Registers {
     }
 
     // A read: the value, or no place.
+    #[tactic(auto, using(crate::proofs::Exactly::place_spans))]
     pub fn read(self, f: Facts, offset: u32, width: u32) -> Answer
         ensures { result ≡ read_of self f offset width }
     {

@@ -131,6 +131,7 @@ impl Interrupts {
     }
 
     // 030h and 032h as they read.
+    #[tactic(auto, unfolding(crate::specs::Interrupt::shown_status))]
     pub fn shown(self, level: bool) -> u32
         ensures { result ≡ shown_status level self }
     {
@@ -138,6 +139,7 @@ impl Interrupts {
     }
 
     // The line is up exactly when some bit of 030h bits 8-0 or 032h stands with its signal enable 1.
+    #[tactic(auto, unfolding(crate::specs::Interrupt::line_of))]
     pub fn line(self, level: bool) -> bool
         ensures { result ≡ line_of level self }
     {

@@ -82,6 +82,7 @@ pub enum Target {
 }
 
 // The word at an offset that is a multiple of 4.
+#[tactic(auto, unfolding(crate::specs::Place::word_at, crate::specs::Place::words, crate::specs::Place::find))]
 fn word_at(base: u32) -> Word
     ensures { result ≡ word_at base }
 {
@@ -118,6 +119,7 @@ fn legal_width(width: u32) -> bool
 }
 
 // What an offset and a width name.
+#[tactic(auto, unfolding(crate::specs::Place::place_of))]
 pub fn place_at(offset: u32, width: u32) -> Place
     ensures { result ≡ place_of offset width }
 {
@@ -175,6 +177,7 @@ fn edit_of(lane: u32, width: u32, value: u32) -> Edit
 }
 
 // What a write names: a value too big for the width names no place either.
+#[tactic(auto, using(crate::proofs::Exactly::place_spans), unfolding(crate::specs::Place::target_of))]
 pub fn target_of(offset: u32, width: u32, value: u32) -> Target
     ensures { result ≡ target_of offset width value }
 {
@@ -212,6 +215,7 @@ pub fn touches_byte(byte: u32, offset: u32, width: u32) -> bool
 }
 
 // Is an access one that Command Inhibit (DAT) forbids to write?
+#[tactic(auto, unfolding(crate::specs::Place::guarded))]
 pub fn is_guarded(offset: u32, width: u32) -> bool
     ensures { result ≡ guarded offset width }
 {

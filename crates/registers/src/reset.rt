@@ -56,6 +56,7 @@ impl Registers {
     }
 
     // The block after resets: bit 0 outdoes the others, bits 1 and 2 come one after the other.
+    #[tactic(auto, unfolding(crate::specs::Reset::reset_with))]
     pub fn reset(self, which: Resets) -> Registers
         ensures { result ≡ reset_with which self }
     {

@@ -65,6 +65,7 @@ fn mode_kept(inhibited: bool, e: Edit) -> Edit
 }
 
 // A bit that stays 1 only with a card in and with all the bits that it needs.
+#[tactic(auto, unfolding(crate::specs::Word::stays))]
 fn kept(card: bool, needs: u32, bit: u32, bits: u32) -> u32
     ensures { result ≡ stays card needs bit bits }
 {
