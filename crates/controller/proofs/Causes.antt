@@ -21,7 +21,7 @@ use Rattle.engine.specs.declared.transfer.Dat.TheVariants as dat
 use Rattle.controller.specs.Slot.{use_of}
 use Rattle.controller.specs.Command.{request_of, is_abort, uses_dat}
 use Rattle.controller.specs.Card.{fits_error}
-use Rattle.controller.specs.Rows.{NamesNoPlace, WritesNoPlace, Crosses, Dark, Resting, rests, Erring, runs, Responding, good, fails, Giving, gives, Taking, takes}
+use Rattle.controller.specs.Rows.{NamesNoPlace, WritesNoPlace, Crosses, Dark, Resting, Erring, runs, Responding, good, fails, Giving, gives, Taking, takes}
 use Rattle.controller.specs.Steps.{World}
 use Rattle.controller.specs.declared.slot.Command.TheVariants as command
 use Rattle.controller.proofs.Names.{Dat, Command, Slot, Registers, Place, Nowhere, Here, Target, Word}

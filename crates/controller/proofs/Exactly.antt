@@ -6,7 +6,7 @@ use mathlib.Core.Logic.{◌↔◌, ◌≢◌}
 use Rattle.terms.specs.Answers.{number_of}
 use Rattle.controller.proofs.Names.{Answer, OutOfTurn, NoPlace, DatInhibited, CommandInhibited, DatInUse, Unpowered, NotCarried, WrongLength, NotYet}
 use Rattle.controller.proofs.Names.{NoTransfer, MemoryTooLarge}
-use Rattle.terms.proofs.Answers.{refusal-value, told-apart}
+use Rattle.terms.proofs.Answers.{refusal_value, told_apart}
 use Rattle.controller.specs.Steps.{Step, World, Result, step_of}
 use Rattle.controller.specs.Rows.{Row1, Row2, Row3, Row4, Row5, Row6, Row7, Row8, Row9, Row10, Row11}
 use Rattle.controller.proofs.Given.{RowOf, Given, done, kept, given}
@@ -14,7 +14,7 @@ use Rattle.controller.proofs.Numbers.{number_of_lem}
 
 -- a refusal is told by its number
 refusal_named : (a b : Answer) → number_of a ≢ 0 → number_of b ≡ number_of a → b ≡ a
-refusal_named a b z h = told-apart b a h (refusal-value b (λ y. z (sym h ∙ y)) ∙ sym (refusal-value a z))
+refusal_named a b z h = told_apart b a h (refusal_value b (λ y. z (sym h ∙ y)) ∙ sym (refusal_value a z))
 
 -- ---- the rows: "Given exactly when"
 

@@ -3,9 +3,9 @@
 use Prim.Native.Nat.{ℕ}
 use mathlib.Core.Path.{◌≡◌, refl, sym, ◌∙◌}
 use mathlib.Core.List.{List}
-use mathlib.Core.Bool.{Bool, true, false, cond, not, false≢true, ◌&&◌, ◌||◌}
+use mathlib.Core.Bool.{Bool, true, false, not, false≢true, ◌&&◌, ◌||◌}
 use lib.Dec.{eqb, ltb}
-use Rattle.terms.specs.Answers.{isDone}
+use Rattle.terms.specs.Answers.{is_done}
 use Rattle.registers.specs.Place.{issues, target_of}
 use Rattle.registers.specs.Word.{in_use, inhibits}
 use Rattle.registers.specs.Reset.{resets_of}
@@ -15,11 +15,11 @@ use Rattle.table.specs.Memory.{too_large}
 use Rattle.engine.specs.Turn as engine
 use Rattle.engine.specs.Block as block
 use Rattle.engine.specs.declared.transfer.Dat.TheVariants as dat
-use Rattle.controller.specs.Slot.{use_of, occupied, halted_dat, awaited_halts, answered_dat, stepped_as}
+use Rattle.controller.specs.Slot.{use_of, occupied, halted_dat, awaited_halts, answered_dat}
 use Rattle.controller.specs.Command.{request_of, would_be, is_busy, is_abort, uses_dat, not_carried, ordinary_dat, dat_issued, judge_of, judged, command_step}
-use Rattle.controller.specs.Access.{command_reset, dat_reset, store_of, write_at}
+use Rattle.controller.specs.Access.{dat_reset, write_at}
 use Rattle.controller.specs.Card.{fits_error, respond_to, respond_of}
-use Rattle.controller.specs.Data.{passed_as, busy_over_at, busy_over, data_error_at, data_error, turned_of}
+use Rattle.controller.specs.Data.{passed_as, busy_over_at, busy_over, data_error_at, data_error}
 use Rattle.controller.specs.Steps.{Step, read, write, card_in, card_out, response, block_given, block_taken, busy_over_step, data_error_step, level, turn, World, step_of}
 use Rattle.controller.specs.Halting.{is_halted, asked_at, asked, OnlyResets}
 use Rattle.controller.specs.declared.slot.Command.TheVariants as command
@@ -130,7 +130,7 @@ module _ (w : World) (h : w.slot.command ≡ command.Halted) where
   Holds r = r.slot.command ≡ command.Halted
 
   passed : (p : Passed) → Holds (passed_as w.slot p)
-  passed p = by_test Holds (isDone p.answer) (λ a. h) (λ a. h)
+  passed p = by_test Holds (is_done p.answer) (λ a. h) (λ a. h)
 
   rested : (d : Dat) → Holds (busy_over_at d w.slot)
   rested dat.Free = h

@@ -2,7 +2,7 @@
 -- definitions.
 use Rattle.std.specs.Prelude.{ℕ, ◌/◌, ◌%◌, Bool, true, false, cond, not, ◌&&◌, ◌||◌, eqb, ltb}
 use Rattle.terms.specs.Counts.{blocks}
-use Rattle.terms.specs.Answers.{isDone}
+use Rattle.terms.specs.Answers.{is_done}
 use Rattle.terms.specs.declared.BlockCount.{BlockCount}
 use Rattle.terms.specs.declared.Answer.{Answer}
 use Rattle.terms.specs.declared.Answer.TheVariants.{Done, CommandInhibited, DatInUse, Unpowered, NotCarried}
@@ -121,7 +121,7 @@ would_be s e = take_of (Takes Order) e (facts_of s) s.registers
 
 -- "A refused command stores no byte of its access."
 abbrev pub judged : Slot → Registers → Request → Answer → Stepped
-judged s r q a = cond (isDone a) (stepped_as a (issue_of s r q)) (stepped_as a s)
+judged s r q a = cond (is_done a) (stepped_as a (issue_of s r q)) (stepped_as a s)
 
 unfoldable pub command_step : Slot → Edit → Stepped
 command_step s e =

@@ -1,8 +1,7 @@
 -- The DAT side of the slot: blocks, busy over, data errors, turns, with their effects on the registers (01 "Commands and card events", "Lines and
 -- turns"). Assumes nothing: these are definitions.
-use Rattle.std.specs.Prelude.{ℕ, ◌-◌, ◌/◌, List, Bool, true, false, cond, ◌&&◌, eqb, ltb}
-use Rattle.terms.specs.Answers.{isDone}
-use Rattle.terms.specs.declared.Answer.{Answer}
+use Rattle.std.specs.Prelude.{ℕ, ◌-◌, ◌/◌, List, Bool, false, cond, ◌&&◌, eqb, ltb}
+use Rattle.terms.specs.Answers.{is_done}
 use Rattle.terms.specs.declared.Answer.TheVariants.{Done, OutOfTurn}
 use Rattle.registers.specs.Block.{with_block, with_fault, with_low}
 use Rattle.registers.specs.declared.block.Registers.{Registers}
@@ -53,7 +52,7 @@ abbrev pub passed_of : Slot → Dat → Outcome → Slot
 passed_of s d outcome = with_sides s (outcome_at outcome (counted_down s.dat s.registers)) s.command d
 
 abbrev pub passed_as : Slot → Passed → Stepped
-passed_as s p = cond (isDone p.answer) (stepped_as p.answer (passed_of s p.dat p.outcome)) (stepped_as p.answer s)
+passed_as s p = cond (is_done p.answer) (stepped_as p.answer (passed_of s p.dat p.outcome)) (stepped_as p.answer s)
 
 abbrev pub given_of : Slot → List ℕ → List ℕ → Stepped × List ℕ
 given_of s buffer bytes = let r = block.given_of s.dat buffer bytes in (passed_as s r.0, r.1)

@@ -1,6 +1,6 @@
 -- The answer table, row by row: "Given exactly when", of every entry in every world. Each row is a list of its causes in the table's words, and
 -- `proofs/Exactly` shows that the number is given exactly then. Assumes nothing: these are definitions.
-use Rattle.std.specs.Prelude.{ℕ, ◌+◌, ◌*◌, ◌%◌, ◌^◌, ◌≤◌, ◌<◌, ◌≡◌, ◌⊎◌, ◌≢◌, List, Bool, true, false, not, ◌&&◌, length}
+use Rattle.std.specs.Prelude.{ℕ, ◌+◌, ◌*◌, ◌%◌, ◌^◌, ◌≤◌, ◌<◌, ◌≡◌, ◌⊎◌, ◌≢◌, List, Bool, true, false, length}
 use Rattle.table.specs.Memory.{memory_limit}
 use Rattle.registers.specs.Place.{limit, issues, guarded, edit_of}
 use Rattle.registers.specs.Word.{in_use}
@@ -10,7 +10,7 @@ use Rattle.registers.specs.declared.block.Reply.{Reply}
 use Rattle.engine.specs.Buffer.{block_of, ready_of}
 use Rattle.engine.specs.Block.{may_give, may_take}
 use Rattle.engine.specs.declared.transfer.Stage.{Stage}
-use Rattle.engine.specs.declared.transfer.Stage.TheVariants.{Fetching, Moving, Stopped}
+use Rattle.engine.specs.declared.transfer.Stage.TheVariants.{Moving, Stopped}
 use Rattle.engine.specs.declared.transfer.Transfer.{Transfer}
 use Rattle.engine.specs.declared.transfer.Dat.{Dat}
 use Rattle.engine.specs.declared.transfer.Dat.TheVariants as dat

@@ -112,6 +112,7 @@ impl Slot {
     }
 
     // A response: 0 good, 1 timeout, 2 CRC, 3 end bit, 4 index, with its four words.
+    #[tactic(auto, unfolding(crate::specs::Card::respond_of))]
     pub fn respond(self, n: u32, words: Reply) -> Stepped
         ensures { result ≡ respond_of self n words }
     {

@@ -69,6 +69,7 @@ fn is_busy(kind: Kind) -> bool
 }
 
 // What the registers ask for.
+#[tactic(auto, unfolding(crate::specs::Command::request_of))]
 fn request_of(r: Registers) -> Request
     ensures { result ≡ request_of r }
 {
@@ -223,6 +224,7 @@ impl Slot {
     }
 
     // A write that issues a command: judged by the registers as they would stand; refused, it stores nothing.
+    #[tactic(auto, unfolding(crate::specs::Command::command_step))]
     pub(crate) fn command_step(self, e: Edit) -> Stepped
         ensures { result ≡ command_step self e }
     {

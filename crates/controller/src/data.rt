@@ -131,6 +131,7 @@ impl Slot {
     }
 
     // The busy of a response is over.
+    #[tactic(auto, unfolding(crate::specs::Data::busy_over))]
     pub fn busy_over(self) -> Stepped
         ensures { result ≡ busy_over self }
     {
@@ -151,6 +152,7 @@ impl Slot {
     }
 
     // A data error: 0 timeout, 1 CRC, 2 end bit.
+    #[tactic(auto, unfolding(crate::specs::Data::data_error))]
     pub fn data_error(self, n: u32) -> Stepped
         ensures { result ≡ data_error self n }
     {

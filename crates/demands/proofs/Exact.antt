@@ -3,7 +3,7 @@ use Prim.Native.Nat.{ℕ}
 use native.Mathlib.Omega.{arith}
 use mathlib.Core.List.{List}
 use Rattle.terms.specs.declared.ByteCount.{ByteCount}
-use Rattle.terms.proofs.Answers.{refusal-value}
+use Rattle.terms.proofs.Answers.{refusal_value}
 use Rattle.table.specs.Written.{write_of}
 use Rattle.table.specs.declared.line.Line.{Line}
 use Rattle.table.proofs.Exactly.{refused_17, written_or_17, refused_keeps, survey_11, survey_12, survey_0, survey_zeros, boot_11, boot_yes}
@@ -52,7 +52,7 @@ demand_1_line room l =
     record {
       row_17 = refused_17 room l;
       no_other = written_or_17 room l;
-      nothing = λ h. (refusal-value (write_of room l).0 h, refused_keeps room l h);
+      nothing = λ h. (refusal_value (write_of room l).0 h, refused_keeps room l h);
     }
 
 -- "Every answer, register and byte after a step is what document 01 says. Descriptor lines read back as they were written."

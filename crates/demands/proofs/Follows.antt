@@ -5,7 +5,7 @@ use mathlib.Core.Path.{◌≡◌, refl, sym, ap, ◌∙◌, subst}
 use mathlib.Core.List.{List, [], ◌++◌, append-nil}
 use mathlib.Core.Bool.{Bool, true, false, cond, not}
 use lib.ListN.{take}
-use Rattle.terms.specs.Answers.{value_of, isDone}
+use Rattle.terms.specs.Answers.{value_of, is_done}
 use Rattle.registers.specs.Block.{with_low}
 use Rattle.registers.specs.declared.block.Adma.{Adma}
 use Rattle.registers.specs.declared.block.Registers.{Registers}
@@ -121,7 +121,7 @@ Holds a r = r.adma ≡ a
 pub passed_is : (s : Slot) {d : Dat} {p : Passed} → s.dat ≡ d → Leads d p
     → passed_as s p
     ≡ stepped_as p.answer
-    (with_sides s (outcome_at p.outcome (cond (isDone p.answer) (counted_down s.dat s.registers) s.registers)) s.command p.dat)
+    (with_sides s (outcome_at p.outcome (cond (is_done p.answer) (counted_down s.dat s.registers) s.registers)) s.command p.dat)
 passed_is s e (stays n) = rw (n, ← e)
 passed_is s e goes = refl
 passed_is s e completes = refl
@@ -145,15 +145,15 @@ module _ (w : World) (v : engine.World) (f : Follows w (seen w v)) where
   blocked : (p : Passed) (x : List ℕ) (block : ℕ → List ℕ) → Leads w.slot.dat p
       → let after = after_block (seen w v) p x (block (value_of p.answer)) in
       Follows (record { slot = (passed_as w.slot p).slot; buffer = x; memory = w.memory }) after
-      × (after.passed ≡ v.passed ++ let a = (passed_as w.slot p).answer in cond (isDone a) (block (value_of a)) [])
+      × (after.passed ≡ v.passed ++ let a = (passed_as w.slot p).answer in cond (is_done a) (block (value_of a)) [])
   blocked p x block l =
       let r = w.slot.registers in
       let counted = by_test (Holds r.adma) (counts_of w.slot.dat) (λ c. refl) (λ c. refl) in
       rw (passed_is w.slot refl l) (
-        moved l (cond (isDone p.answer) (counted_down w.slot.dat r) r) r.adma.low
-            (by_test (Holds r.adma) (isDone p.answer) (λ a. counted) (λ a. refl)) x w.memory
+        moved l (cond (is_done p.answer) (counted_down w.slot.dat r) r) r.adma.low
+            (by_test (Holds r.adma) (is_done p.answer) (λ a. counted) (λ a. refl)) x w.memory
             (after_block (seen w v) p x (block (value_of p.answer))),
-        joined (isDone p.answer) (block (value_of p.answer)),
+        joined (is_done p.answer) (block (value_of p.answer)),
       )
     where
       joined : (t : Bool) (bytes : List ℕ) → cond t (v.passed ++ bytes) v.passed ≡ v.passed ++ cond t bytes []
@@ -167,7 +167,7 @@ module _ (w : World) (v : engine.World) (f : Follows w (seen w v)) where
       let low = with_low w.slot.registers r.0.table in (
         moved (turn_leads w.slot.dat w.slot.registers.adma.low w.buffer w.memory) (ring_at r.0.int low) r.0.table
             (by_test (Holds low.adma) r.0.int (λ i. refl) (λ i. refl)) r.1 r.2 (after_turn (seen w v) r),
-        counted (isDone r.0.answer),
+        counted (is_done r.0.answer),
         sym (append-nil v.passed),
       )
     where

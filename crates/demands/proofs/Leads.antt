@@ -16,7 +16,7 @@ use Rattle.engine.specs.Transfer.{with_counts, dat_of, outcome_of}
 use Rattle.engine.specs.Buffer.{block_of, held_of, ready_of}
 use Rattle.engine.specs.Turn.{refused_as, seen_next, onward_of, carry_of, moving_of, answered_of, running_of, staged_of, turn_of}
 use Rattle.engine.specs.Block.{kept_as, may_give, give_of, given_of, may_take, emptied_of, take_of, taken_of}
-use Rattle.terms.specs.Answers.{isDone}
+use Rattle.terms.specs.Answers.{is_done}
 use Rattle.engine.specs.declared.transfer.Way.{Way}
 use Rattle.engine.specs.declared.transfer.Stage.{Stage}
 use Rattle.engine.specs.declared.transfer.Stage.TheVariants.{Fetching, Moving, Stopped}
@@ -33,7 +33,7 @@ use Rattle.demands.proofs.Sides.{by_dat}
 
 -- it is refused; or the transfer goes on, completes, or fails, with what this tells
 pub data Leads : Dat → Passed → Type 0 where
-  stays : {d : Dat} {a : Answer} → isDone a ≡ false → Leads d (kept_as d a)
+  stays : {d : Dat} {a : Answer} → is_done a ≡ false → Leads d (kept_as d a)
   goes : {t : Transfer} {n : ℕ} {left : BlockCount} {owed held : ByteCount} {stage : Stage}
       → Leads (Runs t) (record { answer = Done n; dat = Runs (with_counts t left owed held stage); outcome = Goes })
   completes : {t : Transfer} {n : ℕ} → Leads (Runs t) (record { answer = Done n; dat = Free; outcome = Completes })

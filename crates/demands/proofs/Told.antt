@@ -5,7 +5,7 @@ use mathlib.Core.Path.{◌≡◌, refl, sym, ap, ◌∙◌}
 use mathlib.Core.Logic.{◌≢◌, inl, inr}
 use mathlib.Core.List.{List, [], ◌∷◌, ◌++◌}
 use mathlib.Core.Bool.{Bool, true, false, not, ◌&&◌, true≢false, false≢true}
-use Rattle.terms.specs.Answers.{number_of, isDone}
+use Rattle.terms.specs.Answers.{number_of, is_done}
 use Rattle.table.specs.Trace.{Kind, well, fault, limit}
 use Rattle.registers.specs.Bits.{bit_of}
 use Rattle.registers.specs.Block.{with_low, with_fault}
@@ -102,7 +102,7 @@ module _ (w : World) (runs : running w ≡ true) where
   blocked : (p : Passed) → Leads w.slot.dat p → Comes w.slot (passed_as w.slot p).slot
   blocked p l =
       rw (passed_is w.slot refl l)
-      (by_test (Ended p) (isDone p.answer)
+      (by_test (Ended p) (is_done p.answer)
       (λ a. by_test (Ended p) (counts_of w.slot.dat) (λ c. led _ l refl (λ kind h. h)) (λ c. led _ l refl (λ kind h. h)))
       (λ a. led _ l refl (λ kind h. h)))
 

@@ -2,7 +2,7 @@
 -- slot, the buffer and the memory that the step before it left: "the same permitted memory is lent and nobody else writes it". Assumes nothing:
 -- these are definitions.
 use Rattle.std.specs.Prelude.{ℕ, List, [], ◌∷◌, ◌++◌, Bool, cond, take}
-use Rattle.terms.specs.Answers.{value_of, isDone}
+use Rattle.terms.specs.Answers.{value_of, is_done}
 use Rattle.terms.specs.declared.Answer.{Answer}
 use Rattle.engine.specs.Transfer.{runs_of}
 use Rattle.engine.specs.Run.{tally}
@@ -50,8 +50,8 @@ passing (write offset width value) r = []
 passing card_in r = []
 passing card_out r = []
 passing (response result words) r = []
-passing (block_given block) r = cond (isDone r.answer) block []
-passing (block_taken room) r = cond (isDone r.answer) (take (value_of r.answer) r.room) []
+passing (block_given block) r = cond (is_done r.answer) block []
+passing (block_taken room) r = cond (is_done r.answer) (take (value_of r.answer) r.room) []
 passing busy_over_step r = []
 passing (data_error_step number) r = []
 passing (level up) r = []

@@ -13,7 +13,7 @@ use Rattle.table.specs.Fetch.{fetch_of}
 use Rattle.table.specs.Trace.{limit}
 use Rattle.engine.specs.Buffer.{ready_of}
 use Rattle.engine.specs.Turn.{refused_as, seen, further, done_rest, carry_of, moved_of, running_of, staged_of, turn_of}
-use Rattle.terms.specs.Answers.{isDone}
+use Rattle.terms.specs.Answers.{is_done}
 use Rattle.engine.specs.Run.{go, World, after_turn, next}
 use Rattle.engine.proofs.Names.{ByteCount, Answer, NotYet, NoTransfer, Fetched, Way, Read, Write, Fetching, Moving, Transfer, Dat, Runs, Next, Fetch}
 use Rattle.engine.proofs.Names.{Move, Stop, Finish, Fail}
@@ -52,7 +52,7 @@ module _ (counted : Bool) (G : Goal) (positive : 0 < G.size) (reaches : G.trace.
     turn_is way st d h = turn_small d s.table x c.memory (omega (arith, h.inv.long))
 
     -- a turn that is refused
-    refused_leads : (way : Way) (st : Next) (a : Answer) → isDone a ≡ false → Stands way G n s x st
+    refused_leads : (way : Way) (st : Next) (a : Answer) → is_done a ≡ false → Stands way G n s x st
         → (let w = world way counted G.size s x st in staged_of w.dat s.table x c.memory ≡ (refused_as w.dat s.table a, x, c.memory))
         → Reached way counted G (next (world way counted G.size s x st) go)
     unfolding next

@@ -1,4 +1,4 @@
--- A refused turn or block event changes nothing; its value is 0 by `refusal-value` of terms. Assumes nothing.
+-- A refused turn or block event changes nothing; its value is 0 by `refusal_value` of terms. Assumes nothing.
 use Prim.Native.Nat.{ℕ}
 use mathlib.Core.Path.{◌≡◌, refl}
 use mathlib.Core.Logic.{◌≢◌}

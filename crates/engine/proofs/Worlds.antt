@@ -15,7 +15,7 @@ use Rattle.engine.specs.Transfer.{with_counts, dat_of, outcome_of}
 use Rattle.engine.specs.Buffer.{block_of, ready_of}
 use Rattle.engine.specs.Turn.{refused_as, answered_of, carry_of, moved_of, moving_of, staged_of, turn_of}
 use Rattle.engine.specs.Block.{kept_as, may_give, gave_of, give_of, may_take, took_of, take_of}
-use Rattle.terms.specs.Answers.{isDone}
+use Rattle.terms.specs.Answers.{is_done}
 use Rattle.engine.specs.Run.{World, told_of, after_turn, after_block}
 use Rattle.engine.proofs.Names.{BlockCount, ByteCount, Answer, NotYet, OutOfTurn, WrongLength, Way, Stage, Fetching, Moving, Stopped, Transfer, Dat}
 use Rattle.engine.proofs.Names.{Runs, Next, Fetch, Move, Stop, Finish, Fail, Outcome, Goes, Completes, Fails, Turned}
@@ -84,11 +84,11 @@ told_goes Completes = refl
 told_goes (Fails state) = refl
 
 -- "All but 0 ... change nothing."
-pub turn_refused : (w : World) (a : Answer) → isDone a ≡ false → after_turn w (refused_as w.dat w.table a, w.buffer, w.memory) ≡ w
+pub turn_refused : (w : World) (a : Answer) → is_done a ≡ false → after_turn w (refused_as w.dat w.table a, w.buffer, w.memory) ≡ w
 unfolding ring_of
 turn_refused w a e = simp (e, told_goes, zero-add)
 
-pub block_refused : (w : World) (a : Answer) (block : List ℕ) → isDone a ≡ false → after_block w (kept_as w.dat a) w.buffer block ≡ w
+pub block_refused : (w : World) (a : Answer) (block : List ℕ) → is_done a ≡ false → after_block w (kept_as w.dat a) w.buffer block ≡ w
 block_refused w a block e = simp (e, told_goes)
 
 -- ---- the clauses of a turn and of the block events, by what the tests say

@@ -1,6 +1,6 @@
 -- A run of a transfer: any list of the engine's own steps, on one lent memory. Assumes nothing: these are definitions.
 use Rattle.std.specs.Prelude.{ℕ, suc, ◌+◌, List, [], ◌∷◌, ◌++◌, Bool, false, cond, not, take}
-use Rattle.terms.specs.Answers.{value_of, isDone}
+use Rattle.terms.specs.Answers.{value_of, is_done}
 use Rattle.terms.specs.declared.Answer.{Answer}
 use Rattle.table.specs.Trace.{ring_of}
 use Rattle.engine.specs.Transfer.{respond_of}
@@ -34,7 +34,7 @@ pub record World : Type 0 where
   pub steps : ℕ
 
 abbrev pub tally : Answer → ℕ → ℕ
-tally answer n = cond (isDone answer) (suc n) n
+tally answer n = cond (is_done answer) (suc n) n
 
 -- the end that was told first
 abbrev pub told_of : Outcome → Outcome → Outcome
@@ -94,7 +94,7 @@ after_block w r buffer block =
       told = told_of w.told r.outcome;
       buffer = buffer;
       memory = w.memory;
-      passed = cond (isDone r.answer) (w.passed ++ block) w.passed;
+      passed = cond (is_done r.answer) (w.passed ++ block) w.passed;
       rings = w.rings;
       turns = w.turns;
       steps = tally r.answer w.steps;

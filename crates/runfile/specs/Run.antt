@@ -1,7 +1,7 @@
 -- "Steps ... Kinds": one step over the controller, and a whole run (01 "The run program"). Assumes nothing: these are definitions.
 use Rattle.std.specs.Prelude.{ℕ, zero, suc, min, ◌+◌, ◌-◌, ◌*◌, List, [], ◌++◌, Bool, cond, length, take, drop, eqb}
 use Rattle.std.proofs.Math.Seq.{paste}
-use Rattle.terms.specs.Answers.{number_of, value_of, isDone}
+use Rattle.terms.specs.Answers.{number_of, value_of, is_done}
 use Rattle.terms.specs.declared.Answer.{Answer}
 use Rattle.registers.specs.Block.{block_size}
 use Rattle.registers.specs.declared.block.Reply.{Reply}
@@ -63,7 +63,7 @@ offered_of c r = min (block_size r.slot.registers) (c.count - r.used)
 
 -- "and uses them up only on answer 0"
 abbrev pub used_after : Answer → ℕ → ℕ → ℕ
-used_after a used n = cond (isDone a) (used + n) used
+used_after a used n = cond (is_done a) (used + n) used
 
 abbrev pub give_of : CardBytes → RunState → List ℕ → StepDone × List ℕ
 give_of c r buffer =

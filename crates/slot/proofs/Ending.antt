@@ -135,9 +135,9 @@ abbrev by_test : Record → controller.Stepped → Bool → Stepped
 by_test h r b = cond b (record { after = record_of r.slot; answer = answer_of r.answer }) (keeps h r.answer)
 
 -- the record after a step that is done, and after one that is not
-is_done : (h : Record) (r : controller.Stepped) (b : Bool) → Holds b → record_of r.slot ≡ (by_test h r b).after
-is_done h r true z = refl
-is_done h r false z = absurd z
+is_done_lem : (h : Record) (r : controller.Stepped) (b : Bool) → Holds b → record_of r.slot ≡ (by_test h r b).after
+is_done_lem h r true z = refl
+is_done_lem h r false z = absurd z
 
 not_done : (h : Record) (r : controller.Stepped) (b : Bool) → Holds (not b) → h ≡ (by_test h r b).after
 not_done h r true z = absurd z
@@ -234,7 +234,7 @@ module _ {M : Type 1} {𝓤 : Ura M} {𝓛 : Logic 𝓤} {K : Type 0} where
         (store_raw t 0 refl (slot_typed 𝓛 (record_of r.slot) (spelt_is (record_of r.slot) is-v))) $
         forget t 6 refl $ forget t 7 refl $ exec t C Λ ((R'.mir, l₀) ∷ (ρ, l₁) ∷ E) (last p f) (at_ret ((R'.mir, l₀) ∷ (ρ, l₁) ∷ E) Kf) $
         returned t fm f known p l lie (record_of r.slot) (spelt_is (record_of r.slot) is-v) r.answer (told_is r is)
-        (λ is-a. rewrite t 0 (λ (s : Record). ‵ (fobs γ ((S.the_row).coded.code s))) (is_done h r (eqb (number_of r.answer) 0) done) refl $ k is-a)))
+        (λ is-a. rewrite t 0 (λ (s : Record). ‵ (fobs γ ((S.the_row).coded.code s))) (is_done_lem h r (eqb (number_of r.answer) 0) done) refl $ k is-a)))
         (λ not. skips t $ exec t C Λ ((R'.mir, l₀) ∷ (ρ, l₁) ∷ E) (last p f) (at_ret ((R'.mir, l₀) ∷ (ρ, l₁) ∷ E) Kf) $
         returned t fm f known p l lie h is-h r.answer (told_is r is)
         (λ is-a. rewrite t 0 (λ (s : Record). ‵ (fobs γ ((S.the_row).coded.code s))) (not_done h r (eqb (number_of r.answer) 0) not) refl $ k is-a))

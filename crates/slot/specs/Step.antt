@@ -1,6 +1,6 @@
 -- The steps on a record: each is the controller's own on the slot that the record spells. Assumes nothing: these are definitions.
 use Rattle.std.specs.Prelude.{ℕ, List, cond, eqb}
-use Rattle.terms.specs.Answers.{number_of, value_of, isDone}
+use Rattle.terms.specs.Answers.{number_of, value_of, is_done}
 use Rattle.terms.specs.declared.Answer as terms
 use Rattle.registers.specs.declared.block.Reply.{Reply}
 use Rattle.controller.specs.Slot.{power_on, line_now}
@@ -24,7 +24,7 @@ keeps r a = record { after = r; answer = answer_of a }
 
 -- what an entry of the controller gives, spelled out
 abbrev pub spelled : Record → controller.Stepped → Stepped
-spelled r s = cond (isDone s.answer) (record { after = record_of s.slot; answer = answer_of s.answer }) (keeps r s.answer)
+spelled r s = cond (is_done s.answer) (record { after = record_of s.slot; answer = answer_of s.answer }) (keeps r s.answer)
 
 -- ---- one step each
 

@@ -1,7 +1,7 @@
 -- The survey and the boot check: what they report of a table's trace, and what they refuse. Assumes nothing: these are definitions.
 use Rattle.std.specs.Prelude.{ℕ, ◌+◌, List, Bool, false, cond, length, ltb, eqb}
 use Rattle.terms.specs.Counts.{bytes, more}
-use Rattle.terms.specs.Answers.{isDone}
+use Rattle.terms.specs.Answers.{is_done}
 use Rattle.terms.specs.declared.Answer.{Answer}
 use Rattle.terms.specs.declared.Answer.TheVariants.{Done, MemoryTooLarge, LimitTooHigh}
 use Rattle.terms.specs.declared.ByteCount.{ByteCount}
@@ -67,7 +67,7 @@ survey_of mem start owed n =
 
 -- does a survey say that the table goes well?
 abbrev pub says_yes : Surveyed → Bool
-says_yes s = cond (isDone s.answer) (eqb s.report.kind 0) false
+says_yes s = cond (is_done s.answer) (eqb s.report.kind 0) false
 
 -- "The boot check ... surveys with limit 0 and says yes exactly on kind 0; 11 is passed on with no."
 abbrev pub boot_of : List ℕ → ℕ → ByteCount → Booted

@@ -10,21 +10,21 @@ use Rattle.terms.specs.declared.Answer.TheVariants.{Done, NoPlace, DatInhibited,
 use Rattle.terms.specs.Answers.{number_of, value_of}
 
 -- "All but 0 have value 0"
-pub refusal-value : (a : Answer) → number_of a ≢ 0 → value_of a ≡ 0
-refusal-value (Done v) h = absurd (h refl)
-refusal-value NoPlace h = refl
-refusal-value DatInhibited h = refl
-refusal-value CommandInhibited h = refl
-refusal-value DatInUse h = refl
-refusal-value Unpowered h = refl
-refusal-value NotCarried h = refl
-refusal-value OutOfTurn h = refl
-refusal-value WrongLength h = refl
-refusal-value NotYet h = refl
-refusal-value NoTransfer h = refl
-refusal-value MemoryTooLarge h = refl
-refusal-value LimitTooHigh h = refl
-refusal-value LineRefused h = refl
+pub refusal_value : (a : Answer) → number_of a ≢ 0 → value_of a ≡ 0
+refusal_value (Done v) h = absurd (h refl)
+refusal_value NoPlace h = refl
+refusal_value DatInhibited h = refl
+refusal_value CommandInhibited h = refl
+refusal_value DatInUse h = refl
+refusal_value Unpowered h = refl
+refusal_value NotCarried h = refl
+refusal_value OutOfTurn h = refl
+refusal_value WrongLength h = refl
+refusal_value NotYet h = refl
+refusal_value NoTransfer h = refl
+refusal_value MemoryTooLarge h = refl
+refusal_value LimitTooHigh h = refl
+refusal_value LineRefused h = refl
 
 -- the refusals by their numbers
 rows : List (ℕ × Answer)
@@ -70,5 +70,5 @@ named_back LimitTooHigh = refl
 named_back LineRefused = refl
 
 -- "An answer is a number and a value": no two names share both
-pub told-apart : (a b : Answer) → number_of a ≡ number_of b → value_of a ≡ value_of b → a ≡ b
-told-apart a b n v = sym (named_back a) ∙ rw (n, v) (named_back b)
+pub told_apart : (a b : Answer) → number_of a ≡ number_of b → value_of a ≡ value_of b → a ≡ b
+told_apart a b n v = sym (named_back a) ∙ rw (n, v) (named_back b)

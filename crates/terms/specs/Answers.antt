@@ -22,8 +22,8 @@ number_of LimitTooHigh = 12
 number_of LineRefused = 17
 
 -- 0: "done"
-abbrev pub isDone : Answer → Bool
-isDone a = eqb (number_of a) 0
+abbrev pub is_done : Answer → Bool
+is_done a = eqb (number_of a) 0
 
 -- "All but 0 have value 0"
 abbrev pub value_of : Answer → ℕ
