@@ -11,7 +11,6 @@ use Rattle.registers.specs.declared.interrupt.Event.TheVariants.{CommandComplete
 use Rattle.registers.specs.declared.place.Edit.{Edit}
 use Rattle.registers.specs.declared.place.Taker.{Taker}
 use Rattle.registers.specs.declared.place.Taker.TheVariants.{System, Block, Argument, Order, Host, Clock, Status, Enabled, Signal, Force, Low, High}
-use Rattle.registers.specs.declared.place.Word.{Word}
 use Rattle.registers.specs.declared.place.Word.TheVariants.{Takes, Tells}
 use Rattle.registers.specs.declared.place.Target.{Target}
 use Rattle.registers.specs.declared.place.Target.TheVariants.{Nowhere, At}

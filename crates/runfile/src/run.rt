@@ -242,7 +242,7 @@ fn run_good(
     ensures { ((result, out.new), (mem.new, buffer.new, room.new)) ≡ good_run file.now memory steps card buffer.old room.old out.old }
 {
     let end = 4 + memory;
-    bytes::copy(&file[4..end], mem);
+    mem.copy_from_slice(&file[4..end]);
     let head = put_head(out, steps as u32);
     let start = RunState {
         slot: Slot::power_on(),

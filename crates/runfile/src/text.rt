@@ -8,7 +8,7 @@ fn put(out: &mut [u8], at: usize, part: &[u8]) -> usize
     requires { at + length part.now ≤ length out.old }
     ensures { (result, out.new) ≡ put_of out.old at part.now }
 {
-    bytes::copy(part, &mut out[at..]);
+    out[at..at + part.len()].copy_from_slice(part);
     at + part.len()
 }
 
