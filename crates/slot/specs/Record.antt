@@ -12,7 +12,6 @@ use Rattle.engine.specs.declared.transfer.Dat.TheVariants as dat
 use Rattle.controller.specs.Command.{kind_of}
 use Rattle.controller.specs.declared.slot.Kind.{Kind}
 use Rattle.controller.specs.declared.slot.Kind.TheVariants.{Silent, Long, Short, ShortBusy}
-use Rattle.controller.specs.declared.slot.Waiting.{Waiting}
 use Rattle.controller.specs.declared.slot.Command.{Command}
 use Rattle.controller.specs.declared.slot.Command.TheVariants as command
 use Rattle.controller.specs.declared.slot.Slot.{Slot}

@@ -1,13 +1,10 @@
 -- The steps on a record: each is the controller's own on the slot that the record spells. Assumes nothing: these are definitions.
-use Rattle.std.specs.Prelude.{ℕ, List, cond, eqb}
+use Rattle.std.specs.Prelude.{ℕ, List, cond}
 use Rattle.terms.specs.Answers.{number_of, value_of, is_done}
 use Rattle.terms.specs.declared.Answer as terms
-use Rattle.registers.specs.declared.block.Reply.{Reply}
-use Rattle.controller.specs.Slot.{power_on, line_now}
 use Rattle.controller.specs.Access as access
 use Rattle.controller.specs.Card as card
 use Rattle.controller.specs.Data as side
-use Rattle.controller.specs.declared.slot.Slot.{Slot}
 use Rattle.controller.specs.declared.slot.Stepped as controller
 use Rattle.slot.specs.Record.{flag_at, slot_of, record_of}
 use Rattle.slot.specs.declared.record.Record.{Record}

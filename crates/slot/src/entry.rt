@@ -1,6 +1,6 @@
-// The entries, exports for C and Rust: each takes the record where it is kept and makes one step on it. A read stores the
-// record that it found; the others store the record after the step, if it is done. The one-block buffer stands beside the
-// record and is lent whole, so it cannot be too short.
+// The entries: each takes the record where it is kept and makes one step on it. A read stores the record that it found; the
+// others store the record after the step, if it is done. The one-block buffer stands beside the record and is lent whole, so
+// it cannot be too short. `slot_c` exports them under these names.
 ghost use Rattle.std.specs.Prelude.{◌≡◌};
 ghost use Rattle.controller.specs.Slot.{power_on, line_now};
 ghost use Rattle.slot.specs.Record.{slot_of, record_of};
@@ -10,24 +10,21 @@ use crate::record::Record;
 use crate::step::{Answer, answer_of};
 
 // At start: no card, nothing waits, the DAT side is free.
-#[unsafe(no_mangle)]
-pub extern "C" fn sdhc_power_on() -> Record
+pub fn sdhc_power_on() -> Record
     ensures { result ≡ record_of power_on }
 {
     Record::power_on()
 }
 
 // Is the interrupt line up?
-#[unsafe(no_mangle)]
-pub extern "C" fn sdhc_line(slot: Record) -> bool
+pub fn sdhc_line(slot: Record) -> bool
     ensures { result ≡ line_now (slot_of slot) }
 {
     slot.line()
 }
 
 // A register is read.
-#[unsafe(no_mangle)]
-pub extern "C" fn sdhc_read(slot: &mut Record, offset: u32, width: u32) -> Answer
+pub fn sdhc_read(slot: &mut Record, offset: u32, width: u32) -> Answer
     ensures { (slot.new ≡ (read_of slot.old offset width).after) × (result ≡ (read_of slot.old offset width).answer) }
 {
     let stepped = Record::read(*slot, offset, width);
@@ -37,8 +34,7 @@ pub extern "C" fn sdhc_read(slot: &mut Record, offset: u32, width: u32) -> Answe
 }
 
 // A register is written.
-#[unsafe(no_mangle)]
-pub extern "C" fn sdhc_write(slot: &mut Record, offset: u32, width: u32, value: u32) -> Answer
+pub fn sdhc_write(slot: &mut Record, offset: u32, width: u32, value: u32) -> Answer
     ensures { (slot.new ≡ (write_of slot.old offset width value).after) × (result ≡ (write_of slot.old offset width value).answer) }
 {
     let got = Record::write(*slot, offset, width, value);
@@ -52,8 +48,7 @@ pub extern "C" fn sdhc_write(slot: &mut Record, offset: u32, width: u32, value: 
 }
 
 // A card comes in.
-#[unsafe(no_mangle)]
-pub extern "C" fn sdhc_card_in(slot: &mut Record) -> Answer
+pub fn sdhc_card_in(slot: &mut Record) -> Answer
     ensures { (slot.new ≡ (in_of slot.old).after) × (result ≡ (in_of slot.old).answer) }
 {
     let got = Record::card_in(*slot);
@@ -67,8 +62,7 @@ pub extern "C" fn sdhc_card_in(slot: &mut Record) -> Answer
 }
 
 // The card goes out.
-#[unsafe(no_mangle)]
-pub extern "C" fn sdhc_card_out(slot: &mut Record) -> Answer
+pub fn sdhc_card_out(slot: &mut Record) -> Answer
     ensures { (slot.new ≡ (out_of slot.old).after) × (result ≡ (out_of slot.old).answer) }
 {
     let got = Record::card_out(*slot);
@@ -82,8 +76,7 @@ pub extern "C" fn sdhc_card_out(slot: &mut Record) -> Answer
 }
 
 // A response: 0 good, 1 timeout, 2 CRC, 3 end bit, 4 index, with its four words.
-#[unsafe(no_mangle)]
-pub extern "C" fn sdhc_respond(
+pub fn sdhc_respond(
     slot: &mut Record,
     res: u32,
     first: u32,
@@ -104,8 +97,7 @@ pub extern "C" fn sdhc_respond(
 }
 
 // The card's interrupt level: down at 0, else up.
-#[unsafe(no_mangle)]
-pub extern "C" fn sdhc_set_level(slot: &mut Record, up: u32) -> Answer
+pub fn sdhc_set_level(slot: &mut Record, up: u32) -> Answer
     ensures { (slot.new ≡ (level_of slot.old up).after) × (result ≡ (level_of slot.old up).answer) }
 {
     let got = Record::set_level(*slot, up);
@@ -119,8 +111,7 @@ pub extern "C" fn sdhc_set_level(slot: &mut Record, up: u32) -> Answer
 }
 
 // The busy of a response is over.
-#[unsafe(no_mangle)]
-pub extern "C" fn sdhc_busy_over(slot: &mut Record) -> Answer
+pub fn sdhc_busy_over(slot: &mut Record) -> Answer
     ensures { (slot.new ≡ (busy_over slot.old).after) × (result ≡ (busy_over slot.old).answer) }
 {
     let got = Record::busy_over(*slot);
@@ -134,8 +125,7 @@ pub extern "C" fn sdhc_busy_over(slot: &mut Record) -> Answer
 }
 
 // A data error: 0 timeout, 1 CRC, 2 end bit.
-#[unsafe(no_mangle)]
-pub extern "C" fn sdhc_data_error(slot: &mut Record, number: u32) -> Answer
+pub fn sdhc_data_error(slot: &mut Record, number: u32) -> Answer
     ensures { (slot.new ≡ (data_error slot.old number).after) × (result ≡ (data_error slot.old number).answer) }
 {
     let got = Record::data_error(*slot, number);
@@ -149,8 +139,7 @@ pub extern "C" fn sdhc_data_error(slot: &mut Record, number: u32) -> Answer
 }
 
 // The card gives a block.
-#[unsafe(no_mangle)]
-pub extern "C" fn sdhc_given(slot: &mut Record, buffer: &mut [u8; 512], block: &[u8]) -> Answer
+pub fn sdhc_given(slot: &mut Record, buffer: &mut [u8; 512], block: &[u8]) -> Answer
     ensures { (slot.new ≡ (given_of slot.old buffer.old block.now).0.after) × (result ≡ (given_of slot.old buffer.old block.now).0.answer) × (buffer.new ≡ (given_of slot.old buffer.old block.now).1) }
 {
     let got = Record::given(*slot, buffer, block);
@@ -164,8 +153,7 @@ pub extern "C" fn sdhc_given(slot: &mut Record, buffer: &mut [u8; 512], block: &
 }
 
 // The card takes a block, into the first bytes of the lent room.
-#[unsafe(no_mangle)]
-pub extern "C" fn sdhc_taken(slot: &mut Record, buffer: &[u8; 512], room: &mut [u8]) -> Answer
+pub fn sdhc_taken(slot: &mut Record, buffer: &[u8; 512], room: &mut [u8]) -> Answer
     ensures { (slot.new ≡ (taken_of slot.old buffer.now room.old).0.after) × (result ≡ (taken_of slot.old buffer.now room.old).0.answer) × (room.new ≡ (taken_of slot.old buffer.now room.old).1) }
 {
     let got = Record::taken(*slot, buffer, room);
@@ -179,8 +167,7 @@ pub extern "C" fn sdhc_taken(slot: &mut Record, buffer: &[u8; 512], room: &mut [
 }
 
 // A turn of the engine, with the buffer and the lent memory.
-#[unsafe(no_mangle)]
-pub extern "C" fn sdhc_turn(slot: &mut Record, buffer: &mut [u8; 512], mem: &mut [u8]) -> Answer
+pub fn sdhc_turn(slot: &mut Record, buffer: &mut [u8; 512], mem: &mut [u8]) -> Answer
     ensures { (slot.new ≡ (turn_of slot.old buffer.old mem.old).0.after) × (result ≡ (turn_of slot.old buffer.old mem.old).0.answer) × (buffer.new ≡ (turn_of slot.old buffer.old mem.old).1) × (mem.new ≡ (turn_of slot.old buffer.old mem.old).2) }
 {
     let got = Record::turn(*slot, buffer, mem);

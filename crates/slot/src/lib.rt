@@ -1,4 +1,4 @@
-// The record that a supervisor keeps for each slot, the entries that update it where it is kept, and the exports for C. A record is
+// The record that a supervisor keeps for each slot, and the entries that update it where it is kept. A record is
 // numbers and nothing else, so every pattern of bytes is one; `record` says which state of the controller it spells.
 #![tactic(auto)]
 

@@ -1,4 +1,5 @@
-// What needs no slot: the survey of a table, the boot check, a line written and read. Exports for C and Rust, with flat results.
+// What needs no slot: the survey of a table, the boot check, a line written and read, with flat results. `slot_c`
+// exports them under these names.
 ghost use Rattle.std.specs.Prelude.{◌≡◌};
 ghost use Rattle.terms.specs.Counts.{bytes};
 ghost use Rattle.slot.specs.Lines.{survey_of, boot_of, line_at, line_part, write_of, read_of};
@@ -74,8 +75,7 @@ fn line_part(l: Line) -> LinePart
 }
 
 // A table is surveyed over memory.
-#[unsafe(no_mangle)]
-pub extern "C" fn sdhc_survey(mem: &[u8], start: u32, owed: u32, limit: u32) -> Survey
+pub fn sdhc_survey(mem: &[u8], start: u32, owed: u32, limit: u32) -> Survey
     ensures { result ≡ survey_of mem.now start owed limit }
 {
     let got = table::survey::survey(mem, start, ByteCount(owed), limit);
@@ -93,8 +93,7 @@ pub extern "C" fn sdhc_survey(mem: &[u8], start: u32, owed: u32, limit: u32) -> 
 }
 
 // Would a transfer of so many bytes go well?
-#[unsafe(no_mangle)]
-pub extern "C" fn sdhc_boot_check(mem: &[u8], start: u32, owed: u32) -> Boot
+pub fn sdhc_boot_check(mem: &[u8], start: u32, owed: u32) -> Boot
     ensures { result ≡ boot_of mem.now start owed }
 {
     let got = table::survey::boot_check(mem, start, ByteCount(owed));
@@ -108,16 +107,14 @@ pub extern "C" fn sdhc_boot_check(mem: &[u8], start: u32, owed: u32) -> Boot
 }
 
 // A line is written into eight bytes.
-#[unsafe(no_mangle)]
-pub extern "C" fn sdhc_write_line(room: &mut [u8], line: LinePart) -> Answer
+pub fn sdhc_write_line(room: &mut [u8], line: LinePart) -> Answer
     ensures { (result, room.new) ≡ write_of room.old line }
 {
     answer_of(table::written::write_line(room, line_at(line)))
 }
 
 // A line is read from its bytes.
-#[unsafe(no_mangle)]
-pub extern "C" fn sdhc_read_line(bytes: &[u8]) -> LinePart
+pub fn sdhc_read_line(bytes: &[u8]) -> LinePart
     ensures { result ≡ read_of bytes.now }
 {
     line_part(table::line::read_line(bytes))
