@@ -1,5 +1,5 @@
 -- A run goes on: a step uses up no more of the card's bytes than there are, a step has one short line, and a step and then the rest are all the
--- steps (`rode-on`). Assumes nothing.
+-- steps (`rode_on`). Assumes nothing.
 use Prim.Native.Nat.{ℕ, zero, suc, min, ◌+◌, ◌*◌, ◌-◌, ◌<◌, ◌≤◌}
 use native.Mathlib.Omega.{arith}
 use native.Mathlib.Nat.{add-zero}

@@ -1,5 +1,5 @@
 -- "A run file is little-endian: three sections in this order and nothing more, each after its 32-bit count". Assumes nothing: these are definitions.
-use Rattle.std.specs.Prelude.{ℕ, zero, suc, ◌+◌, ◌*◌, List, Bool, true, cond, ◌&&◌, ◌||◌, length, get_or, eqb, ltb, leb}
+use Rattle.std.specs.Prelude.{ℕ, zero, suc, ◌+◌, ◌*◌, List, Bool, true, cond, ◌&&◌, length, get_or, eqb, ltb, leb}
 use Rattle.runfile.specs.declared.file.Layout.{Layout}
 use Rattle.runfile.specs.declared.file.Layout.TheVariants.{Bad, Good}
 use Rattle.runfile.specs.declared.file.Step.{Step}

@@ -1,6 +1,5 @@
 -- "Steps ... Kinds": one step over the controller, and a whole run (01 "The run program"). Assumes nothing: these are definitions.
-use Rattle.std.specs.Prelude.{ℕ, zero, suc, min, ◌+◌, ◌-◌, ◌*◌, List, [], ◌++◌, Bool, cond, length, take, drop, eqb}
-use Rattle.std.proofs.Math.Seq.{paste}
+use Rattle.std.specs.Prelude.{ℕ, zero, suc, min, ◌+◌, ◌-◌, ◌*◌, List, [], ◌++◌, cond, take, drop, eqb}
 use Rattle.terms.specs.Answers.{number_of, value_of, is_done}
 use Rattle.terms.specs.declared.Answer.{Answer}
 use Rattle.registers.specs.Block.{block_size}

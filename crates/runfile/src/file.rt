@@ -48,6 +48,7 @@ fn wide(b: u8) -> u32
 }
 
 // The 32 bits at a place, little-endian; a place so far behind the end that its sum would not fit is past it.
+#[tactic(auto, unfolding(crate::specs::File::word_at))]
 pub(crate) fn word_at(file: &[u8], at: usize) -> u32
     ensures { result ≡ word_at file.now at }
 {
@@ -63,6 +64,7 @@ pub(crate) fn word_at(file: &[u8], at: usize) -> u32
 }
 
 // The sections, if they come out even: counts within their limits, and nothing before, between or after.
+#[tactic(auto, unfolding(crate::specs::File::layout_of))]
 pub fn layout_of(file: &[u8]) -> Layout
     ensures { result ≡ layout_of file.now }
 {
@@ -90,6 +92,7 @@ pub fn layout_of(file: &[u8]) -> Layout
 }
 
 // The step at a place. `steps_good` and `run` ask only for places within the file.
+#[tactic(auto, unfolding(crate::specs::File::step_at))]
 pub(crate) fn step_at(file: &[u8], at: usize) -> Step
     requires { at < 65536 }
     ensures { result ≡ step_at file.now at }

@@ -146,6 +146,7 @@ impl RunState {
     }
 
     // One step of the file.
+    #[tactic(auto, unfolding(crate::specs::Run::rode_of))]
     fn ride(
         self,
         step: Step,
