@@ -3,69 +3,118 @@
 
 #![tactic(auto)]
 
+ghost use Rattle.std.specs.Prelude.{◌≤◌, length};
+
+use std::env::FillError;
+use std::fmt::InlineText;
+use std::io::Read;
+use std::rt::{Env, Files};
+use std::str::from_utf8;
+use std::{fs, io};
+
 // The most bytes of a good file: three counts, 32,768 bytes of memory, 512 steps of 20, 16,384 card bytes.
 const LONGEST: usize = 59404;
 
 // The most bytes of output: the count and 512 lines.
 const TEXT: usize = 9744;
 
-fn complain(text: &[u8]) {
-    io::write_all(2, text);
+fn complain(rt: &impl Eprint, text: &str) -> io::Result<()> {
+    rt.eprint(text)
+}
+
+// Says on standard error why the system refused what is named, in the C library's words without the number.
+fn fail(rt: &impl Eprint, name: &str, error: &io::Error) -> io::Result<()> {
+    let told = InlineText::<256>::of(error);
+    let text = told.as_str();
+    let why = match text.split_once(" (os error ") {
+        Some((words, _)) => words,
+        None => text,
+    };
+    eprint!(rt; "{name}: {why}\n")
 }
 
 // Prints the text that was put: the first `n` bytes.
-fn print(out: &[u8], n: usize) {
-    if n <= TEXT {
-        let k = io::count(n as isize, out);
-        io::write_all(1, &out[..k]);
+fn print(rt: &impl Print, out: &[u8], n: usize) -> io::Result<()> {
+    if n <= TEXT && n <= out.len() {
+        rt.write_all(&out[..n])?;
     }
+    Ok(())
 }
 
 // Runs the bytes of a file. One that is too long is a bad file; a word on standard error says why.
-fn ride(file: &[u8]) {
+fn ride<R: Print + Eprint>(rt: &R, file: &[u8]) -> io::Result<()> {
     let mut memory: [u8; 32768] = [0; 32768];
     let mut block: [u8; 512] = [0; 512];
     let mut space: [u8; 512] = [0; 512];
     let mut lines: [u8; 9744] = [0; 9744];
     let mem: &mut [u8] = &mut memory;
     let out: &mut [u8] = &mut lines;
-    if LONGEST < file.len() {
-        complain(b"run: the file is longer than any run file, 59404 bytes\n");
-    }
+    let told = if LONGEST < file.len() {
+        complain(
+            rt,
+            "run: the file is longer than any run file, 59404 bytes\n",
+        )
+    } else {
+        Ok(())
+    };
     let n = runfile::run::run(file, mem, &mut block, &mut space, out);
-    print(&out[..], n);
+    print(rt, &out[..], n)?;
+    told
 }
 
-// Reads what a descriptor gives, to the end or to more than a file may have.
-fn ride_from(fd: i32) {
-    let mut bytes = io::large_buffer();
-    let n = io::read_full(fd, &mut bytes);
-    ride(&bytes[..n]);
+// Reads to the end, until the buffer is full or until a read fails: how many bytes stand at its start, and the error.
+fn read_full(from: &mut impl Read, buf: &mut [u8]) -> (usize, io::Result<()>)
+    ensures { result.0 ≤ length buf.new }
+{
+    let mut done = 0;
+    while done < buf.len() {
+        match from.read(&mut buf[done..]) {
+            Ok(0) => break,
+            Ok(n) => done += n,
+            Err(e) => return (done, Err(e)),
+        }
+    }
+    (done, Ok(()))
 }
 
-fn main() {
-    let count = os::arg_count();
-    if count < 2 {
-        ride_from(0);
-        return;
-    }
-    if 2 < count {
-        complain(b"run: one file at a time: run FILE, or run < FILE\n");
-        return;
-    }
-    let mut path = io::buffer();
-    let length = os::arg(1, &mut path);
-    if os::errno() != 0 {
-        os::fail(b"run: the name of the file");
-        return;
-    }
-    let fd = os::open_read(&path[..length]);
+// Reads to the end or to more than a file may have, and runs what came. A read that fails ends the file, and then the program.
+fn ride_from<R: Print + Eprint>(rt: &R, from: &mut impl Read) -> io::Result<()> {
+    let mut bytes: [u8; 65536] = [0; 65536];
+    let (n, ended) = read_full(from, &mut bytes);
+    ride(rt, &bytes[..n])?;
+    ended
+}
+
+fn ride_named<R: Files + Print + Eprint>(rt: &R, name: &str) -> io::Result<()> {
+    let mut file = match fs::open(rt, name) {
+        Ok(file) => file,
+        Err(e) => return fail(rt, name, &e),
+    };
     // a folder opens as a file does; that it cannot be read shows at no byte
-    let mut none = [0u8; 0];
-    if fd < 0 || libc::read(fd, &mut none) < 0 {
-        os::fail(&path[..length]);
-        return;
+    match file.read(&mut []) {
+        Ok(_) => ride_from(rt, &mut file),
+        Err(e) => fail(rt, name, &e),
     }
-    ride_from(fd);
-    libc::close(fd);
+}
+
+// Is there an argument of this number? 0 is the program's own name.
+fn has_argument(rt: &impl Env, i: usize) -> bool {
+    !matches!(rt.arg(i, &mut []), Err(FillError::NotPresent))
+}
+
+fn main(rt: HostRuntime) -> io::Result<()> {
+    if !has_argument(&rt, 1) {
+        return ride_from(&rt, &mut rt.reader());
+    }
+    if has_argument(&rt, 2) {
+        return complain(&rt, "run: one file at a time: run FILE, or run < FILE\n");
+    }
+    let mut space: [u8; 4096] = [0; 4096];
+    let Ok(n) = rt.arg(1, &mut space) else {
+        return complain(&rt, "run: the name of the file: File name too long\n");
+    };
+    match from_utf8(&space[..n]) {
+        Ok(name) => ride_named(&rt, name),
+        Err(_) => complain(&rt, "run: the name of the file: no UTF-8 text\n"),
+    }
 }

@@ -7,10 +7,12 @@ mod say;
 mod slots;
 mod tables;
 
-fn main() {
-    slots::present();
-    tables::rows();
-    slots::accesses();
-    slots::sizes();
-    example::ride();
+use std::io;
+
+fn main(rt: HostRuntime) -> io::Result<()> {
+    slots::present(&rt)?;
+    tables::rows(&rt)?;
+    slots::accesses(&rt)?;
+    slots::sizes(&rt)?;
+    example::ride(&rt)
 }

@@ -1,25 +1,24 @@
 // Rows of text on standard output.
+use std::io;
 use terms::Answer;
 
-pub(crate) fn say(text: &[u8]) {
-    io::write_all(1, text);
+pub(crate) fn say(rt: &impl Print, text: &str) -> io::Result<()> {
+    rt.print(text)
 }
 
-pub(crate) fn say_number(n: u64) {
-    say(b" ");
-    io::print_decimal(1, n);
+pub(crate) fn say_number(rt: &impl Print, n: u64) -> io::Result<()> {
+    print!(rt; " {n}")
 }
 
 // Eight hex digits.
-pub(crate) fn say_word(n: u32) {
-    say(b" ");
-    io::print_hex(1, n as u64, 8);
+pub(crate) fn say_word(rt: &impl Print, n: u32) -> io::Result<()> {
+    print!(rt; " {n:08x}")
 }
 
-pub(crate) fn say_answer(a: Answer) {
-    say_number(a.number() as u64);
+pub(crate) fn say_answer(rt: &impl Print, a: Answer) -> io::Result<()> {
+    say_number(rt, a.number() as u64)
 }
 
-pub(crate) fn end_row() {
-    say(b"\n");
+pub(crate) fn end_row(rt: &impl Print) -> io::Result<()> {
+    say(rt, "\n")
 }
