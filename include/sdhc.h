@@ -1,7 +1,7 @@
 /*
  * One slot of a proved SD host controller, as a device model of a virtual machine monitor holds it.
  *
- * The functions are in libslot.a, which `rt staticlib slot` proves and writes, for x86-64 Linux. Each is proved to do what
+ * The functions are in libslot.a, which `tools/archive` has proved and writes, for x86-64 Linux. Each is proved to do what
  * document 01 says of its step. docs/INTEGRATION.md says how a monitor uses them and what the proof leaves to the caller.
  *
  * A monitor keeps a `struct sdhc_slot` and calls the functions named sdhc_slot_...: they pass both parts of it, so no buffer

@@ -1,4 +1,4 @@
-// Links the archive that `rt staticlib slot` writes. SDHC_ARCHIVE names the folder that holds libslot.a, by its whole path, if it is
+// Links the archive that `tools/archive` writes. SDHC_ARCHIVE names the folder that holds libslot.a, by its whole path, if it is
 // not the repository's own target/staticlib.
 use std::env;
 use std::path::{Path, PathBuf};
@@ -16,7 +16,7 @@ fn main() {
     println!("cargo:rerun-if-changed={}", archive.display());
     if !archive.is_file() {
         println!(
-            "cargo:warning={} is not there: run `rt staticlib slot` first",
+            "cargo:warning={} is not there: run `tools/archive` first",
             archive.display()
         );
     }

@@ -111,12 +111,22 @@ def stale(entries):
             yield f"{m.id}: {fault}"
 
 
+def crate_lines():
+    """The crates of crates.txt in its order, each with the words after its name and what it stands on."""
+    found = {}
+    with open(os.path.join(TOP, "crates.txt"), encoding="utf-8") as text:
+        for line in text:
+            words, colon, below = line.split("#")[0].partition(":")
+            if colon:
+                name, *more = words.split()
+                found[name] = more, below.split()
+    return found
+
+
 def crates_above(name):
     """The crates that stand on one, in the order of crates.txt."""
     found = [name]
-    with open(os.path.join(TOP, "crates.txt"), encoding="utf-8") as text:
-        for line in text:
-            crate, colon, below = line.split("#")[0].partition(":")
-            if colon and set(below.split()) & set(found):
-                found.append(crate)
+    for crate, (_, below) in crate_lines().items():
+        if set(below) & set(found):
+            found.append(crate)
     return found[1:]

@@ -1,6 +1,5 @@
-"""Rooms: copies of the repository in which one mutation at a time is made. The proofs (target/rlib) are hard links, which the prover
-replaces and never writes into; all else is copied."""
-import collections
+"""Rooms: copies of the repository in which one mutation at a time is made. What rt keeps in crates/*/out/ goes along: proofs and
+libraries as hard links where these can be made, since rt replaces such a file and never writes into it; all else is copied."""
 import os
 import queue
 import shutil
@@ -8,22 +7,19 @@ import signal
 import subprocess
 import sys
 
-from listed import TOP, edited
+from listed import TOP, crate_lines, edited
 
-COPIED = ["crates", "crates.txt", "bench", "examples", "include", "tests", "tools"]
-KEPT = ["stamp", "log", "bin", "obj", "staticlib"]  # parts of target/ that are small
-WARM = 3  # with so many mutations a crate is worth an incremental folder
+COPIED = ["crates.txt", "HANDLES", "bench", "examples", "include", "tests", "tools", "target/staticlib"]
 LONGEST = 1800  # seconds for one command
 RUNNING = set()  # the commands that are under way
 ENDED = []  # the signal that has ended the measurement
 
 
-def command(folder, words, **more):
+def command(folder, words):
     """Runs a command in a group of its own; its status and all that it said."""
     if ENDED:
         return 3, ""
-    env = {**os.environ, "RT_JOBS": "1", "RT_CUT": "0", **more}
-    run = subprocess.Popen(words, cwd=folder, env=env, text=True, errors="replace", start_new_session=True,
+    run = subprocess.Popen(words, cwd=folder, text=True, errors="replace", start_new_session=True,
                            stdin=subprocess.DEVNULL, stdout=subprocess.PIPE, stderr=subprocess.STDOUT)
     RUNNING.add(run)
     try:
@@ -43,13 +39,25 @@ def stopped(number, frame):
     sys.exit(f"strength: ended by signal {number}")
 
 
-def copied(source, target, how="-a"):
-    """A file or folder as another is, if that is there at all; with `-al` by hard links."""
+def linked(source, target):
+    """A copy of a file, or a second name for it where rt keeps a proof or a library."""
+    try:
+        if source.endswith(".oantt") or "/out/rlib/" in source:
+            return os.link(source, target)
+    except OSError:
+        pass  # another disk, say
+    return shutil.copy2(source, target)
+
+
+def copied(source, target):
+    """A file or folder as another is, if that is there at all."""
     if os.path.isdir(target):
         shutil.rmtree(target)
-    if os.path.exists(source):
+    if os.path.isdir(source):
+        shutil.copytree(source, target, symlinks=True, copy_function=linked)
+    elif os.path.exists(source):
         os.makedirs(os.path.dirname(target), exist_ok=True)
-        subprocess.run(["cp", how, "-T", source, target], check=True)
+        shutil.copy2(source, target)
     elif os.path.exists(target):
         os.remove(target)
 
@@ -59,16 +67,17 @@ class Room:
 
     def __init__(self, base, path):
         self.base, self.path = base, path
-        self.changed, self.asked, self.begun = set(), set(), set()
-        for part in COPIED:
-            copied(os.path.join(base, part), os.path.join(path, part))
-        for part in KEPT:
-            self.brought(os.path.join("target", part))
-        self.brought("target/rlib", "-al")
+        self.changed, self.asked = set(), set()
+        for part in COPIED + [f"crates/{crate}" for crate in crate_lines()]:
+            self.brought(part)
 
-    def brought(self, part, how="-a"):
+    def at(self, crate):
+        """The folder of a crate."""
+        return os.path.join(self.path, "crates", crate)
+
+    def brought(self, part):
         """A part as the base has it."""
-        copied(os.path.join(self.base, part), os.path.join(self.path, part), how)
+        copied(os.path.join(self.base, part), os.path.join(self.path, part))
 
     def edit(self, m):
         for part, text in edited(m, self.path).items():
@@ -77,33 +86,21 @@ class Room:
                 out.write(text)
 
     def restore(self):
-        """All as it was: the files edited, what was proved anew, and the incremental folders that were used."""
-        for part in self.changed:
+        """All as it was: the files edited, and what was proved and made anew."""
+        for part in self.changed | {f"crates/{crate}/out" for crate in self.asked} | {"target/staticlib"}:
             self.brought(part)
-        for crate in self.asked:
-            self.brought(f"target/rlib/{crate}.rlib", "-al")
-            for part in (f"bin/{crate}", f"stamp/{crate}", f"staticlib/lib{crate}.a"):
-                self.brought(os.path.join("target", part))
-        for crate in self.begun:
-            self.brought(f"target/inc/{crate}")
-        self.changed, self.asked, self.begun = set(), set(), set()
+        self.changed, self.asked = set(), set()
 
 
 def make_rooms(folder, chosen, jobs):
-    """The base, where the crates to be mutated are proved, and rooms beside it; an incremental folder where that pays."""
+    """The base, where the crates to be mutated are proved, lowest first, and rooms beside it."""
     base = Room(TOP, os.path.join(folder, "base"))
-    count = collections.Counter(m.crate for m in chosen)
-    status, said = command(base.path, ["rt", "check"] + sorted(count), RT_JOBS=str(jobs))
-    if status:
-        sys.exit(said + "strength: the repository as it stands is not proved")
-    for crate in sorted(count):
-        base.brought(f"target/inc/{crate}")
-        program = os.path.exists(os.path.join(TOP, "crates", crate, "src", "main.rt"))
-        if count[crate] >= WARM and not program:
-            command(base.path, ["rt", "dev", crate])
+    mutated = {m.crate for m in chosen}
+    for crate in [crate for crate in crate_lines() if crate in mutated]:
+        status, said = command(base.at(crate), ["rt", "check"])
+        if status:
+            sys.exit(said + "strength: the repository as it stands is not proved")
     free = queue.Queue()
     for number in range(jobs):
-        room = Room(base.path, os.path.join(folder, f"room-{number}"))
-        room.brought("target/inc")
-        free.put(room)
+        free.put(Room(base.path, os.path.join(folder, f"room-{number}")))
     return free

@@ -16,6 +16,7 @@ PHRASES = [
     (r"`?rw`?: no occurrence", "an equation of the proof has nothing to rewrite"),
     (r"`?simp`?: no equation|list the missing equation", "no equation of the proof applies"),
     (r"`?omega`?: ", "the arithmetic does not follow"),
+    (r"`?grind`?: ", "what is to be shown does not follow"),
     (r"`?search`?: no proof", "no proof is found"),
     (r"does not hold", "the equation does not hold"),
     (r"needs a homogeneous path", "what the proof uses as an equation is none"),

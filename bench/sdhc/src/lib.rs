@@ -1,6 +1,6 @@
 //! A proved SD host controller for one slot, as a device model of a virtual machine monitor holds it.
 //!
-//! Every step is a call into the archive that `rt staticlib slot` writes, whose functions are proved to do what document 01
+//! Every step is a call into the archive that `tools/archive` writes, whose functions are proved to do what document 01
 //! says. This crate only passes arguments and shapes results; it keeps nothing of its own.
 //!
 //! ```
