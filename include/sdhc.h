@@ -1,8 +1,8 @@
 /*
  * One slot of a proved SD host controller, as a device model of a virtual machine monitor holds it.
  *
- * The functions are in libslot.a, which `tools/archive` has proved and writes, for x86-64 Linux. Each is proved to do what
- * document 01 says of its step. docs/INTEGRATION.md says how a monitor uses them and what the proof leaves to the caller.
+ * The functions are in libslot.a, which `tools/archive` has proved and writes, for x86-64 Linux (x86-64-v2 and newer). Each is
+ * proved to do what document 01 says of its step. docs/INTEGRATION.md says how a monitor uses them and what the proof leaves to the caller.
  *
  * A monitor keeps a `struct sdhc_slot` and calls the functions named sdhc_slot_...: they pass both parts of it, so no buffer
  * can be too short. Below them stand the archive's own functions, for a caller that keeps the two parts elsewhere.

@@ -40,5 +40,7 @@ pub(crate) fn put(room: &mut [u8], at: usize, part: &[u8])
     requires { at + length part.now ≤ length room.old }
     ensures { room.new ≡ paste room.old at part.now (length part.now) }
 {
-    room[at..at + part.len()].copy_from_slice(part);
+    for (i, b) in part.iter().enumerate() {
+        room[at + i] = *b;
+    }
 }

@@ -90,7 +90,7 @@ read_at (Here word lane width) f r = Done (cut_of (shown_of word f r) lane width
 abbrev pub read_of : Registers → Facts → ℕ → ℕ → Answer
 read_of r f offset width = read_at (place_of offset width) f r
 
--- the answer to a write that issues no command, and the block after it: the controller's write is this one (`plain-write` in
+-- the answer to a write that issues no command, and the block after it: the controller's write is this one (`plain_write` in
 -- controller/proofs/Plain)
 pub record Written : Type 0 where
   pub answer : Answer

@@ -100,7 +100,7 @@ impl RunState {
     // Kind 5: the next block-size card bytes, or what is left, used up only where they are taken.
     fn give(self, file: &[u8], cards: CardBytes, buffer: &mut [u8]) -> StepDone
         requires { (cards.base + cards.count ≤ length file.now) × (self.used ≤ cards.count) }
-        ensures { (result, buffer.new) ≡ give_of (record { file = file.entry.now; base = cards.base; count = cards.count }) self buffer.old }
+        ensures { (result, buffer.new) ≡ give_of (record { file = file.now; base = cards.base; count = cards.count }) self buffer.old }
     {
         let slot = self.slot;
         let used = self.used;
@@ -157,7 +157,7 @@ impl RunState {
         room: &mut [u8],
     ) -> StepDone
         requires { (cards.base + cards.count ≤ length file.now) × (self.used ≤ cards.count) }
-        ensures { (result, record { state = result.state; memory = mem.new; buffer = buffer.new; room = room.new }) ≡ rode_of (record { file = file.entry.now; base = cards.base; count = cards.count }) step (record { state = self; memory = mem.old; buffer = buffer.old; room = room.old }) }
+        ensures { (result, record { state = result.state; memory = mem.new; buffer = buffer.new; room = room.new }) ≡ rode_of (record { file = file.now; base = cards.base; count = cards.count }) step (record { state = self; memory = mem.old; buffer = buffer.old; room = room.old }) }
     {
         let kind = step.kind;
         let slot = self.slot;
@@ -189,7 +189,7 @@ impl RunState {
         at: usize,
     ) -> RunDone
         requires { (cards.base + cards.count ≤ length file.now) × (self.used ≤ cards.count) × (base ≤ 40000) × (i + n ≤ 512) × (at + 19 * n ≤ length out.old) }
-        ensures { ((result.at, out.new), record { state = result.state; memory = mem.new; buffer = buffer.new; room = room.new }) ≡ rode_all (record { file = file.entry.now; base = cards.base; count = cards.count }) base n i (record { state = self; memory = mem.old; buffer = buffer.old; room = room.old }) out.old at }
+        ensures { ((result.at, out.new), record { state = result.state; memory = mem.new; buffer = buffer.new; room = room.new }) ≡ rode_all (record { file = file.now; base = cards.base; count = cards.count }) base n i (record { state = self; memory = mem.old; buffer = buffer.old; room = room.old }) out.old at }
     {
         if n == 0 {
             return RunDone { state: self, at };
