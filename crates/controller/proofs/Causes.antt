@@ -12,7 +12,6 @@ use Rattle.registers.specs.Place.{place_of, fits_of, edit_of, aimed, target_of}
 use Rattle.registers.specs.Word.{in_use}
 use Rattle.registers.specs.Block.{bus_power, bus_clock, power_on}
 use Rattle.registers.specs.Bench.{quiet}
-use Rattle.registers.specs.declared.place.Target.TheVariants as target
 use Rattle.registers.proofs.Tests.{both, either, lacks, eq_test, lt_test, lt_fails}
 use Rattle.registers.proofs.Exactly.{Legal, read_1, place_lies}
 use Rattle.engine.proofs.Exactly as engine
@@ -24,14 +23,14 @@ use Rattle.controller.specs.Card.{fits_error}
 use Rattle.controller.specs.Rows.{NamesNoPlace, WritesNoPlace, Crosses, Dark, Resting, Erring, runs, Responding, good, fails, Giving, gives, Taking, takes}
 use Rattle.controller.specs.Steps.{World}
 use Rattle.controller.specs.declared.slot.Command.TheVariants as command
-use Rattle.controller.proofs.Names.{Dat, Command, Slot, Registers, Place, Nowhere, Here, Target, Word}
+use Rattle.controller.proofs.Names.{Dat, Command, Slot, Registers, Place, Target, Word, Option, Some, None}
 
 -- ---- the accesses
 
 -- what a place says of the access that names it, or names none
-pub data Sits (offset width : ℕ) : Place → Type 0 where
-  nowhere : NamesNoPlace offset width → Sits offset width Nowhere
-  here : (NamesNoPlace offset width → ⊥) → (word : Word) → Sits offset width (Here word (offset % 4) width)
+pub data Sits (offset width : ℕ) : Option Place → Type 0 where
+  nowhere : NamesNoPlace offset width → Sits offset width None
+  here : (NamesNoPlace offset width → ⊥) → (word : Word) → Sits offset width (Some (record { word = word; lane = offset % 4; width = width }))
 
 -- "width not 1, 2 or 4"
 illegal : (width : ℕ) → (Legal width → ⊥) ↔ ((width ≢ 1) × (width ≢ 2) × (width ≢ 4))
@@ -41,18 +40,18 @@ illegal width = (λ h. (λ e. h (inl e), λ e. h (inr (inl e)), λ e. h (inr (in
 pub sits : (offset width : ℕ) → Sits offset width (place_of offset width)
 sits offset width = go (place_of offset width) refl
   where
-    go : (p : Place) → place_of offset width ≡ p → Sits offset width p
-    go Nowhere e = nowhere (⊎_elim (λ h. inl ((illegal width).0 h)) inr ((read_1 power_on (quiet false) offset width).0 (rw e refl)))
-    go (Here word lane n) e =
-        let l = place_lies offset width word lane n e in
+    go : (p : Option Place) → place_of offset width ≡ p → Sits offset width p
+    go None e = nowhere (⊎_elim (λ h. inl ((illegal width).0 h)) inr ((read_1 power_on (quiet false) offset width).0 (rw e refl)))
+    go (Some p) e =
+        let l = place_lies offset width p.word p.lane p.width e in
         let one = read_1 power_on (quiet false) offset width in
         let named : NamesNoPlace offset width → ⊥ = λ u. let x : ◌≡◌ {A = ℕ} 0 1 = rw e at (one.1 (⊎_elim (λ h. inl ((illegal width).1 h)) inr u)) in omega arith in
-        rw (← l.start, ← l.size) (here named word)
+        rw (← l.start, ← l.size) (here named p.word)
 
 -- what a target says of the write that aims at it, or aims nowhere
-pub data Aims (offset width value : ℕ) : Target → Type 0 where
-  astray : WritesNoPlace offset width value → Aims offset width value target.Nowhere
-  aims : (WritesNoPlace offset width value → ⊥) → (word : Word) → Aims offset width value (target.At word (edit_of (offset % 4) width value))
+pub data Aims (offset width value : ℕ) : Option Target → Type 0 where
+  astray : WritesNoPlace offset width value → Aims offset width value None
+  aims : (WritesNoPlace offset width value → ⊥) → (word : Word) → Aims offset width value (Some (record { word = word; edit = edit_of (offset % 4) width value }))
 
 -- "value too big for the width"
 pub aimed_at : (offset width value : ℕ) → Aims offset width value (target_of offset width value)
@@ -60,11 +59,11 @@ unfolding target_of
 aimed_at offset width value = place (sits offset width)
   where
     fit : (word : Word) → (NamesNoPlace offset width → ⊥) → (t : Bool) → fits_of width value ≡ t
-        → Aims offset width value (cond t (target.At word (edit_of (offset % 4) width value)) target.Nowhere)
+        → Aims offset width value (cond t (Some (record { word = word; edit = edit_of (offset % 4) width value })) None)
     fit word n true e = aims (⊎_elim n (λ b. let s = (lt_test value (2 ^ (8 * width))).0 e in omega arith)) word
     fit word n false e = astray (inr ((lt_fails value (2 ^ (8 * width))).0 e))
 
-    place : {p : Place} → Sits offset width p → Aims offset width value (aimed value p)
+    place : {p : Option Place} → Sits offset width p → Aims offset width value (aimed value p)
     place (nowhere u) = astray (inl u)
     place (here n word) = fit word n (fits_of width value) refl
 

@@ -13,7 +13,7 @@ use Rattle.controller.specs.Card.{fits_error, in_of, out_of, level_of, good_of, 
 use Rattle.controller.specs.Data.{passed_of, busy_over_at, busy_over, data_event, data_error_at, data_error, turned_of}
 use Rattle.controller.specs.Steps.{World}
 use Rattle.controller.specs.declared.slot.Command.TheVariants as command
-use Rattle.controller.proofs.Names.{Done, OutOfTurn, Dat, Outcome, Turned, Request, Command, Slot, Stepped, Waiting, Reply, Event}
+use Rattle.controller.proofs.Names.{OutOfTurn, Dat, Outcome, Turned, Request, Command, Slot, Stepped, Waiting, Reply, Event, Ok, Err}
 use Rattle.controller.proofs.Names.{CardInsertion, CardRemoval, TransferComplete, Edit, Word, Resets}
 use Rattle.controller.proofs.Causes.{by_test, resting, erring, responding}
 
@@ -68,7 +68,7 @@ pub data Effect (w : World) : Slot → Type 0 where
 -- done, with an effect, or out of turn, by a test
 abbrev pub Hinges : World → Bool → Stepped → Type 0
 Hinges w t x =
-    (after : Slot) × (x ≡ cond t (stepped_as (Done 0) after) (stepped_as OutOfTurn w.slot)) × (t ≡ true → Effect w after)
+    (after : Slot) × (x ≡ cond t (stepped_as (Ok 0) after) (stepped_as (Err OutOfTurn) w.slot)) × (t ≡ true → Effect w after)
 
 -- "Card in / out: 7 if already so."
 pub in_hinges : (w : World) → Hinges w (not w.slot.card) (in_of w.slot)
@@ -116,7 +116,7 @@ unfolding respond_of
 response_hinges w n words = go w.slot.command
   where
     join : (a b : Bool) (x y : Slot) (z : Stepped)
-        → cond a (stepped_as (Done 0) x) (cond b (stepped_as (Done 0) y) z) ≡ cond (a || b) (stepped_as (Done 0) (cond a x y)) z
+        → cond a (stepped_as (Ok 0) x) (cond b (stepped_as (Ok 0) y) z) ≡ cond (a || b) (stepped_as (Ok 0) (cond a x y)) z
     join true b x y z = refl
     join false b x y z = refl
 

@@ -26,7 +26,7 @@ use Rattle.controller.specs.Command.{request_of, not_carried, judged, command_st
 use Rattle.controller.specs.Access.{write_at}
 use Rattle.controller.specs.Steps.{Step, read, write, card_in, card_out, response, block_given, block_taken, busy_over_step, data_error_step, level, turn, World, Result, plain, step_of, lent}
 use Rattle.controller.specs.Rows.{as_written, Commands, Row1, Row2, Row3, Row4, Row5, Row6, Row7, Row8, Row9, Row10, Row11, reads, writes, guards, waits, crosses, dark, uncarried, already_in, already_out, no_response, no_giving, no_taking, no_rest, no_error, no_card, other_length, small_room, Idling, free, busy, stopped, stuck, halted, due, awaits, no_bytes, idles, too_large}
-use Rattle.controller.proofs.Names.{BlockCount, ByteCount, Answer, Done, OutOfTurn, NoPlace, DatInhibited, CommandInhibited, DatInUse, Unpowered}
+use Rattle.controller.proofs.Names.{BlockCount, ByteCount, Answer, OutOfTurn, NoPlace, DatInhibited, CommandInhibited, DatInUse, Unpowered, Ok, Option, Err}
 use Rattle.controller.proofs.Names.{NotCarried, WrongLength, NotYet, NoTransfer, MemoryTooLarge, LimitTooHigh, LineRefused}
 use Rattle.controller.proofs.Names.{Transfer, Dat, Next, Fetch, Move, Stop, Finish, Fail, Turned, Passed, Stepped, Registers, Place, Target}
 use Rattle.controller.proofs.Effects.{awaiting, Effect, same, stores, passes, turns, Hinges, in_hinges, out_hinges, level_hinges, busy_hinges, error_hinges, response_hinges}
@@ -34,24 +34,24 @@ use Rattle.controller.proofs.Causes.{by_test, Sits, nowhere, here, sits, Aims, a
 
 -- the row that gives an answer: "Given exactly when"; no row of these entries is done, 12 or 17
 abbrev pub RowOf : Answer → World → Step → Type 0
-RowOf (Done v) w e = ⊥
-RowOf NoPlace w e = Row1 w e
-RowOf DatInhibited w e = Row2 w e
-RowOf CommandInhibited w e = Row3 w e
-RowOf DatInUse w e = Row4 w e
-RowOf Unpowered w e = Row5 w e
-RowOf NotCarried w e = Row6 w e
-RowOf OutOfTurn w e = Row7 w e
-RowOf WrongLength w e = Row8 w e
-RowOf NotYet w e = Row9 w e
-RowOf NoTransfer w e = Row10 w e
-RowOf MemoryTooLarge w e = Row11 w e
-RowOf LimitTooHigh w e = ⊥
-RowOf LineRefused w e = ⊥
+RowOf (Ok v) w e = ⊥
+RowOf (Err NoPlace) w e = Row1 w e
+RowOf (Err DatInhibited) w e = Row2 w e
+RowOf (Err CommandInhibited) w e = Row3 w e
+RowOf (Err DatInUse) w e = Row4 w e
+RowOf (Err Unpowered) w e = Row5 w e
+RowOf (Err NotCarried) w e = Row6 w e
+RowOf (Err OutOfTurn) w e = Row7 w e
+RowOf (Err WrongLength) w e = Row8 w e
+RowOf (Err NotYet) w e = Row9 w e
+RowOf (Err NoTransfer) w e = Row10 w e
+RowOf (Err MemoryTooLarge) w e = Row11 w e
+RowOf (Err LimitTooHigh) w e = ⊥
+RowOf (Err LineRefused) w e = ⊥
 
 -- what a step gives: it is done, or a row refuses it, and world and room are as they were
 pub data Given (w : World) (e : Step) : Result → Type 0 where
-  done : {v : ℕ} {after : World} {room : List ℕ} → Effect w after.slot → Given w e (record { answer = Done v; world = after; room = room })
+  done : {v : ℕ} {after : World} {room : List ℕ} → Effect w after.slot → Given w e (record { answer = Ok v; world = after; room = room })
   kept : {a : Answer} → RowOf a w e → Given w e (record { answer = a; world = w; room = lent e })
 
 -- ---- the accesses
@@ -60,7 +60,7 @@ given_read : (w : World) (offset width : ℕ) → Given w (read offset width) (s
 unfolding step_of
 given_read w offset width = go (sits offset width)
   where
-    go : {p : Place} → Sits offset width p
+    go : {p : Option Place} → Sits offset width p
         → Given w (read offset width) (plain w (stepped_as (read_at p (facts_of w.slot) w.slot.registers) w.slot))
     go (nowhere u) = kept (reads u)
     go (here n word) = done same
@@ -92,7 +92,7 @@ given_write w offset width value = go (aimed_at offset width value)
     P : Stepped → Type 0
     P s = Given w (write offset width value) (plain w s)
 
-    go : {t : Target} → Aims offset width value t → P (write_at t w.slot offset width)
+    go : {t : Option Target} → Aims offset width value t → P (write_at t w.slot offset width)
     go (astray u) = kept (writes u)
     go (aims n word) =
         by_test P (issues offset width) (λ i. given_command w offset width value (n, i))
@@ -111,7 +111,7 @@ given_hinged w e false (after, h, f) r l = rw (h, ← l) (kept (r refl))
 follows : (t : Transfer) (left : BlockCount) (owed held : ByteCount) (next : Next)
     → awaiting (dat_of t left owed held next) ≡ true → awaiting (dat.Runs t) ≡ true
 follows t left owed held Fetch a = a
-follows t left owed held (Move rest at last int) a = a
+follows t left owed held (Move hand) a = a
 follows t left owed held Stop a = a
 follows t left owed held Finish a = absurd (false≢true a)
 follows t left owed held (Fail state) a = absurd (false≢true a)

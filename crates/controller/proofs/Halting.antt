@@ -10,7 +10,6 @@ use Rattle.registers.specs.Place.{issues, target_of}
 use Rattle.registers.specs.Word.{in_use, inhibits}
 use Rattle.registers.specs.Reset.{resets_of}
 use Rattle.registers.specs.Block.{bus_power, bus_clock}
-use Rattle.registers.specs.declared.place.Target.TheVariants as target
 use Rattle.table.specs.Memory.{too_large}
 use Rattle.engine.specs.Turn as engine
 use Rattle.engine.specs.Block as block
@@ -23,7 +22,7 @@ use Rattle.controller.specs.Data.{passed_as, busy_over_at, busy_over, data_error
 use Rattle.controller.specs.Steps.{Step, read, write, card_in, card_out, response, block_given, block_taken, busy_over_step, data_error_step, level, turn, World, step_of}
 use Rattle.controller.specs.Halting.{is_halted, asked_at, asked, OnlyResets}
 use Rattle.controller.specs.declared.slot.Command.TheVariants as command
-use Rattle.controller.proofs.Names.{Answer, Turned, Passed, Dat, Way, Read, Write, Request, Command, Slot, Stepped, Registers, Reply, Target, Resets}
+use Rattle.controller.proofs.Names.{Answer, Turned, Passed, Dat, Way, Read, Write, Request, Command, Slot, Stepped, Registers, Reply, Target, Resets, Option, Some, None}
 use Rattle.controller.proofs.Causes.{by_test}
 
 -- what holds of a halted busy and of every halted transfer holds of every halted use
@@ -87,12 +86,12 @@ module _ (s : Slot) (k : is_halted s.dat ≡ true) where
       (λ u. by_test (λ (a : Answer). Stays (judged s r q a)) powered
       (λ p. by_test (λ (a : Answer). Stays (judged s r q a)) (not_carried q) (λ n. refl) (λ n. issued_stays q u)) (λ p. refl)))
 
-  write_stays : (offset width : ℕ) (t : Target) → ((asked_at t offset width).all || (asked_at t offset width).«data») ≡ false → Stays (write_at t s offset width)
+  write_stays : (offset width : ℕ) (t : Option Target) → ((asked_at t offset width).all || (asked_at t offset width).«data») ≡ false → Stays (write_at t s offset width)
   unfolding command_step
-  write_stays offset width target.Nowhere n = refl
-  write_stays offset width (target.At word e) n =
-      by_test Stays (issues offset width) (λ c. let r = would_be s e in judged_stays r (request_of r) (bus_clock r && bus_power r))
-      (λ c. by_test Stays (inhibits (use_of s.dat) offset width) (λ i. refl) (λ i. reset_dat (resets_of offset width e) s.dat spared n))
+  write_stays offset width None n = refl
+  write_stays offset width (Some t) n =
+      by_test Stays (issues offset width) (λ c. let r = would_be s t.edit in judged_stays r (request_of r) (bus_clock r && bus_power r))
+      (λ c. by_test Stays (inhibits (use_of s.dat) offset width) (λ i. refl) (λ i. reset_dat (resets_of offset width t.edit) s.dat spared n))
 
   response_stays : (n : ℕ) (words : Reply) (c : Command) → Stays (respond_to c s n words)
   response_stays n words command.Idle = refl
@@ -151,9 +150,9 @@ module _ (w : World) (h : w.slot.command ≡ command.Halted) where
   command_stays (read offset width) n = h
   command_stays (write offset width value) n = go (target_of offset width value) n
     where
-      go : (t : Target) → ((asked_at t offset width).all || (asked_at t offset width).command) ≡ false → Holds (write_at t w.slot offset width)
-      go target.Nowhere n = h
-      go (target.At word e) n =
+      go : (t : Option Target) → ((asked_at t offset width).all || (asked_at t offset width).command) ≡ false → Holds (write_at t w.slot offset width)
+      go None n = h
+      go (Some t) n =
           by_test Holds (issues offset width) (λ c. rw h)
           (λ c. by_test Holds (inhibits (use_of w.slot.dat) offset width) (λ i. h) (λ i. rw n h))
   command_stays card_in n = by_test Holds w.slot.card (λ c. h) (λ c. h)

@@ -57,11 +57,11 @@ module _ (table : ℕ) (x mem : List ℕ) (h : Bytes x) (g : Bytes mem) where
   unfolding running_of moving_of
   staged Stopped t = (h, g)
   staged Fetching t = asked t.answered t _ (h, g)
-  staged (Moving rest at last int) t =
+  staged (Moving hand) t =
       let ready = ready_of t.way t.size (length x) t.held in
-      asked t.answered t (moving_of t table rest at last int x mem)
+      asked t.answered t (moving_of t table hand x mem)
       (by_test Both (eqb ready.0 0) (λ z. (h, g))
-      (λ z. by_test Both (in_memory (length mem) at (least rest ready).0) (λ i. carried t.way t at (least rest ready)) (λ i. (h, g))))
+      (λ z. by_test Both (in_memory (length mem) hand.at (least hand.rest ready).0) (λ i. carried t.way t hand.at (least hand.rest ready)) (λ i. (h, g))))
 
   turn_bytes : (d : Dat) → Both (turn_of d table x mem)
   unfolding staged_of

@@ -4,9 +4,11 @@ pub mod Causes
 pub mod Effects
 pub mod Given
 pub mod Plain
+pub mod Turned
 pub mod Halting
 pub mod Numbers
 pub mod Refused
+pub mod Kept
 pub mod Exactly
 pub mod Bench
 pub mod Masks

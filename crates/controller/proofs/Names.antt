@@ -1,5 +1,6 @@
 -- The declared types that the proofs of this crate speak of, and their constructors, brought together once. Proves nothing, and assumes nothing.
-pub use Rattle.terms.specs.declared.Answer.TheVariants.{Done, NoPlace, DatInhibited, CommandInhibited, DatInUse, Unpowered, NotCarried, LimitTooHigh, LineRefused}
+pub use Rattle.std.specs.Prelude.{Option, Some, None, Ok, Err}
+pub use Rattle.terms.specs.declared.Refusal.TheVariants.{NoPlace, DatInhibited, CommandInhibited, DatInUse, Unpowered, NotCarried, LimitTooHigh, LineRefused}
 pub use Rattle.table.specs.declared.line.Act.{Act}
 pub use Rattle.table.specs.declared.line.Act.TheVariants.{Tran, Link, Other}
 pub use Rattle.registers.specs.declared.block.Registers.{Registers}
@@ -7,8 +8,7 @@ pub use Rattle.registers.specs.declared.block.Reply.{Reply}
 pub use Rattle.registers.specs.declared.interrupt.Event.{Event}
 pub use Rattle.registers.specs.declared.interrupt.Event.TheVariants.{CommandComplete, CardInsertion, CardRemoval, TransferComplete, DmaInterrupt, AdmaError}
 pub use Rattle.registers.specs.declared.place.Edit.{Edit}
-pub use Rattle.registers.specs.declared.place.Place.{Place}
-pub use Rattle.registers.specs.declared.place.Place.TheVariants.{Nowhere, Here}
+pub use Rattle.registers.specs.Place.{Place}
 pub use Rattle.registers.specs.declared.place.Taker.TheVariants.{Order}
 pub use Rattle.registers.specs.declared.place.Target.{Target}
 pub use Rattle.registers.specs.declared.place.Word.{Word}
@@ -24,12 +24,12 @@ pub use Rattle.engine.specs.declared.transfer.Next.{Next}
 pub use Rattle.engine.specs.declared.transfer.Next.TheVariants.{Fetch, Move, Stop, Finish, Fail}
 pub use Rattle.engine.specs.declared.transfer.Outcome.{Outcome}
 pub use Rattle.engine.specs.declared.transfer.Outcome.TheVariants.{Goes, Completes, Fails}
-pub use Rattle.engine.specs.declared.turn.Turned.{Turned}
-pub use Rattle.engine.specs.declared.block.Passed.{Passed}
+pub use Rattle.engine.specs.Turn.{Turned}
+pub use Rattle.engine.specs.Block.{Passed}
 pub use Rattle.engine.proofs.Names.{BlockCount, ByteCount, Answer, NotYet, NoTransfer, OutOfTurn, WrongLength, MemoryTooLarge, Fetched, Fault}
 pub use Rattle.controller.specs.declared.command.Request.{Request}
 pub use Rattle.controller.specs.declared.slot.Command.{Command}
 pub use Rattle.controller.specs.declared.slot.Kind.{Kind}
 pub use Rattle.controller.specs.declared.slot.Slot.{Slot}
-pub use Rattle.controller.specs.declared.slot.Stepped.{Stepped}
+pub use Rattle.controller.specs.Slot.{Stepped}
 pub use Rattle.controller.specs.declared.slot.Waiting.{Waiting}

@@ -11,8 +11,6 @@ use Rattle.terms.specs.Answers.{number_of}
 use Rattle.registers.specs.Place.{edit_of, issues}
 use Rattle.registers.specs.Block.{bus_power, bus_clock}
 use Rattle.registers.specs.Word.{in_use}
-use Rattle.registers.specs.declared.place.Place.TheVariants as place
-use Rattle.registers.specs.declared.place.Target.TheVariants as target
 use Rattle.registers.proofs.Tests.{fails}
 use Rattle.registers.proofs.Command.{issues_unguarded}
 use Rattle.engine.specs.Block.{give_of, take_of}
@@ -23,7 +21,7 @@ use Rattle.controller.specs.Slot.{use_of, occupied}
 use Rattle.controller.specs.Command.{request_of, is_abort, uses_dat, not_carried, judged, command_step}
 use Rattle.controller.specs.Steps.{Step, write, World, step_of}
 use Rattle.controller.specs.Rows.{NamesNoPlace, WritesNoPlace, as_written, Commands, Row1, Row2, Row3, Row4, Row5, Row6, Row7, Row8, Row9, Row10, Row11, reads, writes, guards, waits, crosses, dark, uncarried, already_in, already_out, no_response, no_giving, no_taking, no_rest, no_error, no_card, other_length, small_room, Idling, free, busy, stopped, stuck, halted, Due, due, awaits, no_bytes, idles, too_large}
-use Rattle.controller.proofs.Names.{Answer, Done, OutOfTurn, NoPlace, DatInhibited, CommandInhibited, DatInUse, Unpowered, NotCarried}
+use Rattle.controller.proofs.Names.{Option, Some, None, Answer, OutOfTurn, NoPlace, DatInhibited, CommandInhibited, DatInUse, Unpowered, NotCarried, Err, Ok}
 use Rattle.controller.proofs.Names.{WrongLength, NotYet, NoTransfer, MemoryTooLarge, LimitTooHigh, LineRefused, Stage, Transfer, Dat}
 use Rattle.controller.proofs.Names.{Request, Slot, Stepped, Registers, Place, Target, Word}
 use Rattle.controller.proofs.Effects.{Hinges, busy_hinges, error_hinges, response_hinges}
@@ -35,17 +33,17 @@ abbrev number : World → Step → ℕ
 number w e = number_of (step_of w e).answer
 
 -- an access that names no place has none
-unplaced : {offset width : ℕ} {p : Place} → NamesNoPlace offset width → Sits offset width p → p ≡ place.Nowhere
+unplaced : {offset width : ℕ} {p : Option Place} → NamesNoPlace offset width → Sits offset width p → p ≡ None
 unplaced u (nowhere v) = refl
 unplaced u (here n word) = absurd (n u)
 
-untargeted : {offset width value : ℕ} {t : Target} → WritesNoPlace offset width value → Aims offset width value t → t ≡ target.Nowhere
+untargeted : {offset width value : ℕ} {t : Option Target} → WritesNoPlace offset width value → Aims offset width value t → t ≡ None
 untargeted u (astray v) = refl
 untargeted u (aims n word) = absurd (n u)
 
 -- and one past the test is at its place
-targeted : {offset width value : ℕ} {t : Target} → (WritesNoPlace offset width value → ⊥) → Aims offset width value t
-    → (word : Word) × (t ≡ target.At word (edit_of (offset % 4) width value))
+targeted : {offset width value : ℕ} {t : Option Target} → (WritesNoPlace offset width value → ⊥) → Aims offset width value t
+    → (word : Word) × (t ≡ Some (record { word = word; edit = edit_of (offset % 4) width value }))
 targeted n (astray u) = absurd (n u)
 targeted n (aims m word) = (word, refl)
 
@@ -55,7 +53,7 @@ judged_answer s r q a = by_test (λ (x : Stepped). x.answer ≡ a) (eqb (number_
 
 -- "Order: ... 3, 4, 5, 6", by the four tests
 abbrev verdict : Bool → Bool → Bool → Bool → Answer
-verdict a b c d = cond a CommandInhibited (cond b DatInUse (cond c (cond d NotCarried (Done 0)) Unpowered))
+verdict a b c d = cond a (Err CommandInhibited) (cond b (Err DatInUse) (cond c (cond d (Err NotCarried) (Ok 0)) (Err Unpowered)))
 
 module _ (w : World) where
   number_1 : {e : Step} → Row1 w e → number w e ≡ 1
@@ -148,17 +146,17 @@ module _ (w : World) where
 
   -- the row of an answer gives its number, which is one from 1 to 11
   pub number_of_lem : (e : Step) (a : Answer) → RowOf a w e → (number w e ≡ number_of a) × (0 < number_of a) × (number_of a < 12)
-  number_of_lem e (Done v) r = absurd r
-  number_of_lem e NoPlace r = (number_1 r, omega arith, omega arith)
-  number_of_lem e DatInhibited r = (number_2 r, omega arith, omega arith)
-  number_of_lem e CommandInhibited r = (number_3 r, omega arith, omega arith)
-  number_of_lem e DatInUse r = (number_4 r, omega arith, omega arith)
-  number_of_lem e Unpowered r = (number_5 r, omega arith, omega arith)
-  number_of_lem e NotCarried r = (number_6 r, omega arith, omega arith)
-  number_of_lem e OutOfTurn r = (number_7 r, omega arith, omega arith)
-  number_of_lem e WrongLength r = (number_8 r, omega arith, omega arith)
-  number_of_lem e NotYet r = (number_9 r, omega arith, omega arith)
-  number_of_lem e NoTransfer r = (number_10 r, omega arith, omega arith)
-  number_of_lem e MemoryTooLarge r = (number_11 r, omega arith, omega arith)
-  number_of_lem e LimitTooHigh r = absurd r
-  number_of_lem e LineRefused r = absurd r
+  number_of_lem e (Ok v) r = absurd r
+  number_of_lem e (Err NoPlace) r = (number_1 r, omega arith, omega arith)
+  number_of_lem e (Err DatInhibited) r = (number_2 r, omega arith, omega arith)
+  number_of_lem e (Err CommandInhibited) r = (number_3 r, omega arith, omega arith)
+  number_of_lem e (Err DatInUse) r = (number_4 r, omega arith, omega arith)
+  number_of_lem e (Err Unpowered) r = (number_5 r, omega arith, omega arith)
+  number_of_lem e (Err NotCarried) r = (number_6 r, omega arith, omega arith)
+  number_of_lem e (Err OutOfTurn) r = (number_7 r, omega arith, omega arith)
+  number_of_lem e (Err WrongLength) r = (number_8 r, omega arith, omega arith)
+  number_of_lem e (Err NotYet) r = (number_9 r, omega arith, omega arith)
+  number_of_lem e (Err NoTransfer) r = (number_10 r, omega arith, omega arith)
+  number_of_lem e (Err MemoryTooLarge) r = (number_11 r, omega arith, omega arith)
+  number_of_lem e (Err LimitTooHigh) r = absurd r
+  number_of_lem e (Err LineRefused) r = absurd r

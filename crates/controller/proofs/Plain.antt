@@ -3,17 +3,17 @@
 use Prim.Native.Nat.{ℕ}
 use mathlib.Core.Path.{◌≡◌, refl}
 use mathlib.Core.Bool.{Bool, true, false, cond}
-use Rattle.terms.specs.declared.Answer.TheVariants.{Done, DatInhibited}
+use Rattle.std.specs.Prelude.{Option, Some, None, Ok, Err}
+use Rattle.terms.specs.declared.Refusal.TheVariants.{DatInhibited}
 use Rattle.registers.specs.Place.{issues, target_of}
 use Rattle.registers.specs.Word.{inhibits}
 use Rattle.registers.specs.Reset.{resets_of}
 use Rattle.registers.specs.Access as block
 use Rattle.registers.specs.declared.place.Target.{Target}
-use Rattle.registers.specs.declared.place.Target.TheVariants.{Nowhere, At}
 use Rattle.controller.specs.Slot.{use_of, facts_of, stepped_as}
 use Rattle.controller.specs.Access.{store_of, write_at, write_of}
 use Rattle.controller.specs.declared.slot.Slot.{Slot}
-use Rattle.controller.specs.declared.slot.Stepped.{Stepped}
+use Rattle.controller.specs.Slot.{Stepped}
 
 -- the answer and the block are those of a write to the block
 abbrev pub Plain : Slot → Stepped → block.Written → Type 0
@@ -23,12 +23,12 @@ pub plain_write : (s : Slot) (offset width value : ℕ) → issues offset width 
     → Plain s (write_of s offset width value) (block.write_of s.registers (facts_of s) offset width value)
 plain_write s offset width value h = go (target_of offset width value)
   where
-    go : (t : Target) → Plain s (write_at t s offset width) (block.write_at t (inhibits (use_of s.dat) offset width) (facts_of s) s.registers)
-    go Nowhere = (refl, refl)
-    go (At w e) = rw h (held (inhibits (use_of s.dat) offset width))
+    go : (t : Option Target) → Plain s (write_at t s offset width) (block.write_at t (inhibits (use_of s.dat) offset width) (facts_of s) s.registers)
+    go None = (refl, refl)
+    go (Some t) = rw h (held (inhibits (use_of s.dat) offset width))
       where
-        held : (t : Bool)
-            → Plain s (cond t (stepped_as DatInhibited s) (stepped_as (Done 0) (store_of s w e (resets_of offset width e))))
-            (cond t (block.written_as DatInhibited s.registers) (block.written_as (Done 0) (block.take_of w e (facts_of s) s.registers)))
+        held : (b : Bool)
+            → Plain s (cond b (stepped_as (Err DatInhibited) s) (stepped_as (Ok 0) (store_of s t.word t.edit (resets_of offset width t.edit))))
+            (cond b (block.written_as (Err DatInhibited) s.registers) (block.written_as (Ok 0) (block.take_of t.word t.edit (facts_of s) s.registers)))
         held true = (refl, refl)
         held false = (refl, refl)

@@ -1,6 +1,6 @@
 -- Register accesses of the slot: reads, writes, and what the resets do to its two sides (01 "Registers"). Assumes nothing: these are definitions.
-use Rattle.std.specs.Prelude.{ℕ, cond, ◌||◌}
-use Rattle.terms.specs.declared.Answer.TheVariants.{Done, NoPlace, DatInhibited}
+use Rattle.std.specs.Prelude.{ℕ, cond, ◌||◌, Option, Some, None, Ok, Err}
+use Rattle.terms.specs.declared.Refusal.TheVariants.{NoPlace, DatInhibited}
 use Rattle.registers.specs.Place.{target_of, issues}
 use Rattle.registers.specs.Word.{inhibits}
 use Rattle.registers.specs.Reset.{resets_of}
@@ -8,16 +8,14 @@ use Rattle.registers.specs.Access as block
 use Rattle.registers.specs.declared.place.Edit.{Edit}
 use Rattle.registers.specs.declared.place.Word.{Word}
 use Rattle.registers.specs.declared.place.Target.{Target}
-use Rattle.registers.specs.declared.place.Target.TheVariants.{Nowhere, At}
 use Rattle.registers.specs.declared.reset.Resets.{Resets}
 use Rattle.engine.specs.declared.transfer.Dat.{Dat}
 use Rattle.engine.specs.declared.transfer.Dat.TheVariants.{Free}
-use Rattle.controller.specs.Slot.{use_of, facts_of, awaited_halts, with_sides, stepped_as}
+use Rattle.controller.specs.Slot.{Stepped, use_of, facts_of, awaited_halts, with_sides, stepped_as}
 use Rattle.controller.specs.Command.{command_step}
 use Rattle.controller.specs.declared.slot.Command.{Command}
 use Rattle.controller.specs.declared.slot.Command.TheVariants.{Idle}
 use Rattle.controller.specs.declared.slot.Slot.{Slot}
-use Rattle.controller.specs.declared.slot.Stepped.{Stepped}
 
 -- "Bit 0: all to power-on"; "Bit 1: drops the command"
 abbrev pub command_reset : Resets → Command → Command
@@ -37,12 +35,12 @@ abbrev pub read_of : Slot → ℕ → ℕ → Stepped
 read_of s offset width = stepped_as (block.read_of s.registers (facts_of s) offset width) s
 
 -- "1 first"; "Byte 00Fh issues."; 2; done
-abbrev pub write_at : Target → Slot → ℕ → ℕ → Stepped
-write_at Nowhere s offset width = stepped_as NoPlace s
-write_at (At w e) s offset width =
-    cond (issues offset width) (command_step s e)
-    (cond (inhibits (use_of s.dat) offset width) (stepped_as DatInhibited s)
-    (stepped_as (Done 0) (store_of s w e (resets_of offset width e))))
+abbrev pub write_at : Option Target → Slot → ℕ → ℕ → Stepped
+write_at None s offset width = stepped_as (Err NoPlace) s
+write_at (Some t) s offset width =
+    cond (issues offset width) (command_step s t.edit)
+    (cond (inhibits (use_of s.dat) offset width) (stepped_as (Err DatInhibited) s)
+    (stepped_as (Ok 0) (store_of s t.word t.edit (resets_of offset width t.edit))))
 
 abbrev pub write_of : Slot → ℕ → ℕ → ℕ → Stepped
 write_of s offset width value = write_at (target_of offset width value) s offset width

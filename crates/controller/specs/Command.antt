@@ -4,8 +4,9 @@ use Rattle.std.specs.Prelude.{ℕ, ◌/◌, ◌%◌, Bool, true, false, cond, no
 use Rattle.terms.specs.Counts.{blocks}
 use Rattle.terms.specs.Answers.{is_done}
 use Rattle.terms.specs.declared.BlockCount.{BlockCount}
-use Rattle.terms.specs.declared.Answer.{Answer}
-use Rattle.terms.specs.declared.Answer.TheVariants.{Done, CommandInhibited, DatInUse, Unpowered, NotCarried}
+use Rattle.terms.specs.Answers.{Answer}
+use Rattle.std.specs.Prelude.{Ok, Err}
+use Rattle.terms.specs.declared.Refusal.TheVariants.{CommandInhibited, DatInUse, Unpowered, NotCarried}
 use Rattle.registers.specs.Word.{in_use}
 use Rattle.registers.specs.Block.{block_size, block_count, mode_of, command_of, dma_select, bus_power, bus_clock}
 use Rattle.registers.specs.Access.{take_of}
@@ -18,12 +19,11 @@ use Rattle.engine.specs.declared.transfer.Way.{Way}
 use Rattle.engine.specs.declared.transfer.Way.TheVariants.{Read, Write}
 use Rattle.engine.specs.declared.transfer.Dat.{Dat}
 use Rattle.engine.specs.declared.transfer.Dat.TheVariants.{Busy}
-use Rattle.controller.specs.Slot.{use_of, occupied, facts_of, halted_dat, with_sides, stepped_as}
+use Rattle.controller.specs.Slot.{Stepped, use_of, occupied, facts_of, halted_dat, with_sides, stepped_as}
 use Rattle.controller.specs.declared.slot.Kind.{Kind}
 use Rattle.controller.specs.declared.slot.Kind.TheVariants.{Silent, Long, Short, ShortBusy}
 use Rattle.controller.specs.declared.slot.Command.TheVariants.{Waits}
 use Rattle.controller.specs.declared.slot.Slot.{Slot}
-use Rattle.controller.specs.declared.slot.Stepped.{Stepped}
 use Rattle.controller.specs.declared.command.Request.{Request}
 
 -- the response types 00b, 01b, 10b and 11b
@@ -107,9 +107,9 @@ dat_issued q d = cond (is_abort q && in_use (use_of d)) (halted_dat d) (ordinary
 -- "Order: ... 3, 4, 5, 6": command inhibited; DAT in use; no clock or no power; a setting not carried
 abbrev pub judge_of : Slot → Request → Bool → Answer
 judge_of s q powered =
-    cond (occupied s.command) CommandInhibited
-    (cond (uses_dat q && not (is_abort q) && in_use (use_of s.dat)) DatInUse
-    (cond powered (cond (not_carried q) NotCarried (Done 0)) Unpowered))
+    cond (occupied s.command) (Err CommandInhibited)
+    (cond (uses_dat q && not (is_abort q) && in_use (use_of s.dat)) (Err DatInUse)
+    (cond powered (cond (not_carried q) (Err NotCarried) (Ok 0)) (Err Unpowered)))
 
 -- "Issuing sets bit 0 of Present State, and the DAT side"; "A command keeps the settings it was issued with."
 abbrev pub issue_of : Slot → Registers → Request → Slot

@@ -2,22 +2,26 @@
 -- turns"). Assumes nothing: these are definitions.
 use Rattle.std.specs.Prelude.{ℕ, ◌-◌, ◌/◌, List, Bool, false, cond, ◌&&◌, eqb, ltb}
 use Rattle.terms.specs.Answers.{is_done}
-use Rattle.terms.specs.declared.Answer.TheVariants.{Done, OutOfTurn}
+use Rattle.std.specs.Prelude.{Result, Ok, Err}
+use Rattle.terms.specs.declared.Refusal.{Refusal}
+use Rattle.terms.specs.declared.Refusal.TheVariants.{OutOfTurn}
 use Rattle.registers.specs.Block.{with_block, with_fault, with_low}
 use Rattle.registers.specs.declared.block.Registers.{Registers}
 use Rattle.registers.specs.declared.interrupt.Event.{Event}
 use Rattle.registers.specs.declared.interrupt.Event.TheVariants.{TransferComplete, DmaInterrupt, DataTimeout, DataCrc, DataEndBit, AdmaError}
+use Rattle.table.specs.Fetch.{byte_of}
 use Rattle.engine.specs.Turn as engine
+use Rattle.engine.specs.Turn.{Turned}
 use Rattle.engine.specs.Block as block
+use Rattle.engine.specs.Block.{Passed}
 use Rattle.engine.specs.declared.transfer.Dat.{Dat}
 use Rattle.engine.specs.declared.transfer.Dat.TheVariants.{Free, Busy, Runs, Stuck, Halted}
 use Rattle.engine.specs.declared.transfer.Outcome.{Outcome}
 use Rattle.engine.specs.declared.transfer.Outcome.TheVariants.{Goes, Completes, Fails}
-use Rattle.engine.specs.declared.block.Passed.{Passed}
-use Rattle.engine.specs.declared.turn.Turned.{Turned}
-use Rattle.controller.specs.Slot.{raised_at, with_sides, stepped_as}
+use Rattle.controller.specs.Slot.{Stepped, raised_at, with_sides, stepped_as}
+use Rattle.controller.specs.declared.data.DataError.{DataError}
+use Rattle.controller.specs.declared.data.DataError.TheVariants as error
 use Rattle.controller.specs.declared.slot.Slot.{Slot}
-use Rattle.controller.specs.declared.slot.Stepped.{Stepped}
 
 -- ---- effects on the registers
 
@@ -40,7 +44,7 @@ counted_down d r = cond (counts_of d) (with_block r (fallen_block r.setup.block)
 abbrev pub outcome_at : Outcome → Registers → Registers
 outcome_at Goes r = r
 outcome_at Completes r = raised_at TransferComplete r
-outcome_at (Fails state) r = raised_at AdmaError (with_fault r state)
+outcome_at (Fails f) r = raised_at AdmaError (with_fault r (byte_of f))
 
 -- "A line done with Int sets DMA Interrupt."
 abbrev pub ring_at : Bool → Registers → Registers
@@ -63,30 +67,40 @@ taken_of s buffer room = let r = block.taken_of s.dat buffer room in (passed_as 
 -- ---- busy over and data errors
 
 abbrev pub raised_step : Slot → Dat → Event → Stepped
-raised_step s d event = stepped_as (Done 0) (with_sides s (raised_at event s.registers) s.command d)
+raised_step s d event = stepped_as (Ok 0) (with_sides s (raised_at event s.registers) s.command d)
 
 -- "Busy over: busy, response in; Transfer Complete, DAT free."
 abbrev pub busy_over_at : Dat → Slot → Stepped
-busy_over_at Free s = stepped_as OutOfTurn s
-busy_over_at (Busy answered) s = cond answered (raised_step s Free TransferComplete) (stepped_as OutOfTurn s)
-busy_over_at (Runs t) s = stepped_as OutOfTurn s
-busy_over_at Stuck s = stepped_as OutOfTurn s
-busy_over_at (Halted way) s = stepped_as OutOfTurn s
+busy_over_at Free s = stepped_as (Err OutOfTurn) s
+busy_over_at (Busy answered) s = cond answered (raised_step s Free TransferComplete) (stepped_as (Err OutOfTurn) s)
+busy_over_at (Runs t) s = stepped_as (Err OutOfTurn) s
+busy_over_at Stuck s = stepped_as (Err OutOfTurn) s
+busy_over_at (Halted way) s = stepped_as (Err OutOfTurn) s
 
 unfoldable pub busy_over : Slot → Stepped
 busy_over s = busy_over_at s.dat s
 
 -- "0 timeout, 1 CRC, 2 end bit"; "sets error bit 4 to 6"
+abbrev pub data_number : DataError → ℕ
+data_number error.Timeout = 0
+data_number error.Crc = 1
+data_number error.EndBit = 2
+
+-- "Over 2: out of turn."
+abbrev pub data_error_of : ℕ → Result DataError Refusal
+data_error_of n =
+    cond (eqb n 0) (Ok error.Timeout) (cond (eqb n 1) (Ok error.Crc) (cond (eqb n 2) (Ok error.EndBit) (Err OutOfTurn)))
+
 abbrev pub data_event : ℕ → Event
 data_event n = cond (eqb n 0) DataTimeout (cond (eqb n 1) DataCrc DataEndBit)
 
 -- "running transfer with response in (busy: 0 only)"; "Over 2: out of turn."
 abbrev pub data_error_at : Dat → Slot → ℕ → Stepped
-data_error_at Free s n = stepped_as OutOfTurn s
-data_error_at (Busy answered) s n = cond (answered && eqb n 0) (raised_step s Stuck (data_event n)) (stepped_as OutOfTurn s)
-data_error_at (Runs t) s n = cond (t.answered && ltb n 3) (raised_step s (Halted t.way) (data_event n)) (stepped_as OutOfTurn s)
-data_error_at Stuck s n = stepped_as OutOfTurn s
-data_error_at (Halted way) s n = stepped_as OutOfTurn s
+data_error_at Free s n = stepped_as (Err OutOfTurn) s
+data_error_at (Busy answered) s n = cond (answered && eqb n 0) (raised_step s Stuck (data_event n)) (stepped_as (Err OutOfTurn) s)
+data_error_at (Runs t) s n = cond (t.answered && ltb n 3) (raised_step s (Halted t.way) (data_event n)) (stepped_as (Err OutOfTurn) s)
+data_error_at Stuck s n = stepped_as (Err OutOfTurn) s
+data_error_at (Halted way) s n = stepped_as (Err OutOfTurn) s
 
 unfoldable pub data_error : Slot → ℕ → Stepped
 data_error s n = data_error_at s.dat s n

@@ -1,9 +1,8 @@
 -- "Halted means only a reset frees it": what a step may do to a use or a command that is halted. Assumes nothing: these are definitions.
-use Rattle.std.specs.Prelude.{ℕ, ◌≡◌, Bool, true, false, ◌||◌}
+use Rattle.std.specs.Prelude.{ℕ, ◌≡◌, Bool, true, false, ◌||◌, Option, Some, None}
 use Rattle.registers.specs.Place.{target_of}
 use Rattle.registers.specs.Reset.{no_resets, resets_of}
 use Rattle.registers.specs.declared.place.Target.{Target}
-use Rattle.registers.specs.declared.place.Target.TheVariants.{Nowhere, At}
 use Rattle.registers.specs.declared.reset.Resets.{Resets}
 use Rattle.engine.specs.declared.transfer.Dat.{Dat}
 use Rattle.engine.specs.declared.transfer.Dat.TheVariants as dat
@@ -19,9 +18,9 @@ is_halted dat.Stuck = true
 is_halted (dat.Halted way) = true
 
 -- bits 0, 1 and 2 of 02Fh, as a write sets them: none where it names no place
-abbrev pub asked_at : Target → ℕ → ℕ → Resets
-asked_at Nowhere offset width = no_resets
-asked_at (At word e) offset width = resets_of offset width e
+abbrev pub asked_at : Option Target → ℕ → ℕ → Resets
+asked_at None offset width = no_resets
+asked_at (Some t) offset width = resets_of offset width t.edit
 
 -- no other step resets
 abbrev pub asked : Step → Resets

@@ -134,7 +134,7 @@ pub data Idling : Dat → Type 0 where
 
 -- a move is due
 pub data Due : Stage → Type 0 where
-  due : {rest : _} {at : ℕ} {last int : Bool} → Due (Moving rest at last int)
+  due : {hand : _} → Due (Moving hand)
 
 -- 9: "turn: its response awaited, or a move due with the buffer full (write) or empty (read)"
 pub data Row9 (w : World) : Step → Type 0 where

@@ -1,6 +1,6 @@
 -- The slot: its registers, its card, the command side and the DAT side (01 "The controller we show"). Assumes nothing: these are definitions.
-use Rattle.std.specs.Prelude.{Bool, true, false, cond}
-use Rattle.terms.specs.declared.Answer.{Answer}
+use Rattle.std.specs.Prelude.{ℕ, List, Bool, true, false, cond, Result, Ok, Err}
+use Rattle.terms.specs.Answers.{Answer}
 use Rattle.registers.specs.Block as block
 use Rattle.registers.specs.Interrupt.{event_set, raised, line_of}
 use Rattle.registers.specs.declared.block.Registers.{Registers}
@@ -16,7 +16,13 @@ use Rattle.engine.specs.declared.transfer.Dat.TheVariants as dat
 use Rattle.controller.specs.declared.slot.Command.{Command}
 use Rattle.controller.specs.declared.slot.Command.TheVariants as command
 use Rattle.controller.specs.declared.slot.Slot.{Slot}
-use Rattle.controller.specs.declared.slot.Stepped.{Stepped}
+use Rattle.controller.specs.declared.slot.Done.{Done}
+use Rattle.terms.specs.declared.Refusal.{Refusal}
+
+-- what an entry gives: the answer, and the slot after it
+pub record Stepped : Type 0 where
+  pub answer : Answer
+  pub slot : Slot
 
 -- at start: no card, nothing waits, the DAT side is free
 abbrev pub power_on : Slot
@@ -25,6 +31,21 @@ power_on = record { registers = block.power_on; card = false; level = false; com
 -- other registers and other sides; the card and its level stay
 abbrev pub with_sides : Slot → Registers → Command → Dat → Slot
 with_sides s r c d = record { registers = r; card = s.card; level = s.level; command = c; dat = d }
+
+-- the same as the program gives it: a refusal gives no slot, since it leaves the one that there was
+abbrev pub done_by : Answer → Slot → Result Done Refusal
+done_by (Ok value) s = Ok (record { value = value; slot = s })
+done_by (Err refusal) s = Err refusal
+
+abbrev pub done_of : Stepped → Result Done Refusal
+done_of z = done_by z.answer z.slot
+
+-- with the buffer or the room after it, and with the buffer and the memory
+abbrev pub done_with : Stepped × List ℕ → Result Done Refusal × List ℕ
+done_with z = (done_of z.0, z.1)
+
+abbrev pub done_over : Stepped × List ℕ × List ℕ → Result Done Refusal × List ℕ × List ℕ
+done_over z = (done_of z.0, z.1, z.2)
 
 -- an entry's answer and the slot after it
 abbrev pub stepped_as : Answer → Slot → Stepped

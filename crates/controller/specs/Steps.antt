@@ -1,12 +1,12 @@
 -- Every entry of the slot in one list, and one step of each: what the theorems over all entries speak of. Assumes nothing: these are definitions.
+use Rattle.controller.specs.Slot.{Stepped}
 use Rattle.std.specs.Prelude.{ℕ, List, [], Bool}
-use Rattle.terms.specs.declared.Answer.{Answer}
+use Rattle.terms.specs.Answers.{Answer}
 use Rattle.registers.specs.declared.block.Reply.{Reply}
 use Rattle.controller.specs.Access.{read_of, write_of}
 use Rattle.controller.specs.Card.{in_of, out_of, respond_of, level_of}
 use Rattle.controller.specs.Data.{given_of, taken_of, busy_over, data_error, turn_of}
 use Rattle.controller.specs.declared.slot.Slot.{Slot}
-use Rattle.controller.specs.declared.slot.Stepped.{Stepped}
 
 -- an entry with its arguments; a taken block comes with the room lent for it
 pub data Step : Type 0 where

@@ -1,19 +1,19 @@
 // Register accesses: a read, a write, and what the resets do to the two sides.
 ghost use Rattle.std.specs.Prelude.{◌≡◌};
+ghost use Rattle.controller.specs.Slot.{done_of};
 ghost use Rattle.controller.specs.Access.{command_reset, dat_reset, store_of, read_of, write_of};
 
-use crate::slot::{Command, Slot, Stepped, awaited_halts, gives, use_of};
+use crate::slot::{Command, Done, Slot, awaited_halts, use_of};
 use engine::transfer::Dat;
-use registers::place::{Edit, Target, Word, is_command, target_of};
-use registers::reset::{Resets, resets_of};
-use registers::word::is_inhibited;
-use terms::Answer;
+use registers::place::{Access, Target};
+use registers::reset::Resets;
+use terms::Refusal;
 
 // The command side after resets: bits 0 and 1 drop the command.
 fn command_reset(which: Resets, command: Command) -> Command
     ensures { result ≡ command_reset which command }
 {
-    if which.all | which.command {
+    if which.all || which.command {
         Command::Idle
     } else {
         command
@@ -24,10 +24,9 @@ fn command_reset(which: Resets, command: Command) -> Command
 fn dat_reset(which: Resets, dat: Dat) -> Dat
     ensures { result ≡ dat_reset which dat }
 {
-    if which.all | which.data {
-        return Dat::Free;
-    }
-    if which.command {
+    if which.all || which.data {
+        Dat::Free
+    } else if which.command {
         awaited_halts(dat)
     } else {
         dat
@@ -36,41 +35,39 @@ fn dat_reset(which: Resets, dat: Dat) -> Dat
 
 impl Slot {
     // A write that stores, acknowledges, enables, forces or resets.
-    fn store(self, word: Word, e: Edit, which: Resets) -> Slot
-        ensures { result ≡ store_of self word e which }
+    fn store(self, target: Target, which: Resets) -> Slot
+        ensures { result ≡ store_of self target.word target.edit which }
     {
-        let command = self.command;
-        let dat = self.dat;
-        let r = self.registers.take(word, e, self.facts());
-        self.with_sides(r, command_reset(which, command), dat_reset(which, dat))
+        Slot {
+            registers: self.registers.take(target.word, target.edit, self.facts()),
+            command: command_reset(which, self.command),
+            dat: dat_reset(which, self.dat),
+            ..self
+        }
     }
 
     // A read: the value, or no place. Today the slot stays as it is.
-    pub fn read(self, offset: u32, width: u32) -> Stepped
-        ensures { result ≡ read_of self offset width }
+    pub fn read(self, offset: u32, width: u32) -> Result<Done, Refusal>
+        ensures { result ≡ done_of (read_of self offset width) }
     {
-        let answer = self.registers.read(self.facts(), offset, width);
-        gives(answer, self)
+        let value = self.registers.read(self.facts(), Access { offset, width })?;
+        Ok(self.done(value))
     }
 
     // A write: no place, a command, a register that Command Inhibit (DAT) guards, or a store.
-    pub fn write(self, offset: u32, width: u32, value: u32) -> Stepped
-        ensures { result ≡ write_of self offset width value }
+    pub fn write(self, offset: u32, width: u32, value: u32) -> Result<Done, Refusal>
+        ensures { result ≡ done_of (write_of self offset width value) }
     {
-        let target = target_of(offset, width, value);
-        let Target::At { word, edit } = target else {
-            return gives(Answer::NoPlace, self);
+        let access = Access { offset, width };
+        let Some(target) = access.target(value) else {
+            return Err(Refusal::NoPlace);
         };
-        if is_command(offset, width) {
-            return self.command_step(edit);
+        if access.is_command() {
+            return self.command_step(target.edit);
         }
-        let dat = self.dat;
-        if is_inhibited(use_of(dat), offset, width) {
-            return gives(Answer::DatInhibited, self);
+        if access.is_inhibited(use_of(self.dat)) {
+            return Err(Refusal::DatInhibited);
         }
-        gives(
-            Answer::Done(0),
-            self.store(word, edit, resets_of(offset, width, edit)),
-        )
+        Ok(self.store(target, access.resets(target.edit)).done(0))
     }
 }

@@ -1,49 +1,68 @@
 // The card's events: in, out, the response, the interrupt level.
 ghost use Rattle.std.specs.Prelude.{◌≡◌};
-ghost use Rattle.controller.specs.Card.{is_silent, fits_error, error_event, reply_after, good_of, failed_of, answer_of, respond_of, in_of, out_of, level_of};
+ghost use Rattle.controller.specs.Slot.{done_of};
+ghost use Rattle.controller.specs.Card.{error_at, error_number, fits_error, error_event, reply_after, good_of, failed_of, answer_of, respond_of, in_of, out_of, level_of};
 
 use crate::slot::{
-    Command, Kind, Slot, Stepped, Waiting, answered_dat, awaited_halts, gives, halted_command,
-    halted_dat, raised_at,
+    Command, Done, Kind, Slot, Waiting, answered_dat, awaited_halts, halted_command, halted_dat,
+    raised_at,
 };
 use registers::block::Reply;
 use registers::interrupt::Event;
-use terms::Answer;
+use terms::Refusal;
 
-fn is_silent(kind: Kind) -> bool
-    ensures { result ≡ is_silent kind }
-{
-    match kind {
-        Kind::Silent => true,
-        Kind::Long => false,
-        Kind::Short => false,
-        Kind::ShortBusy => false,
+// How a response can fail.
+#[derive(Clone, Copy, PartialEq, Eq)]
+pub enum ResponseError {
+    Timeout = 1,
+    Crc = 2,
+    EndBit = 3,
+    Index = 4,
+}
+
+impl TryFrom<u32> for ResponseError {
+    type Error = Refusal;
+
+    ghost try_from_gives = { λ n r. r ≡ error_at n };
+
+    // The error by its number; any other number is out of turn.
+    fn try_from(n: u32) -> Result<Self, Refusal> {
+        match n {
+            1 => Ok(ResponseError::Timeout),
+            2 => Ok(ResponseError::Crc),
+            3 => Ok(ResponseError::EndBit),
+            4 => Ok(ResponseError::Index),
+            _ => Err(Refusal::OutOfTurn),
+        }
     }
 }
 
-// Can a response to this command fail so: none of type 00b, 2 and 4 only with their check on?
-fn fits_error(w: Waiting, n: u32) -> bool
-    ensures { result ≡ fits_error w n }
-{
-    let kind = w.kind;
-    let silent = is_silent(kind);
-    !silent & ((n == 1) | ((n == 2) & w.crc) | (n == 3) | ((n == 4) & w.index))
+impl ResponseError {
+    // The event that it raises.
+    fn event(self) -> Event
+        ensures { result ≡ error_event (error_number self) }
+    {
+        match self {
+            ResponseError::Timeout => Event::CommandTimeout,
+            ResponseError::Crc => Event::CommandCrc,
+            ResponseError::EndBit => Event::CommandEndBit,
+            ResponseError::Index => Event::CommandIndex,
+        }
+    }
 }
 
-// The event of a failed response: 1 timeout, 2 CRC, 3 end bit, else index.
-fn error_event(n: u32) -> Event
-    ensures { result ≡ error_event n }
-{
-    if n == 1 {
-        return Event::CommandTimeout;
+impl Waiting {
+    // Can a response to this command fail so: none of type 00b, CRC and index only with their check on?
+    fn can_fail(self, error: ResponseError) -> bool
+        ensures { result ≡ fits_error self (error_number error) }
+    {
+        self.kind != Kind::Silent
+            && match error {
+                ResponseError::Timeout | ResponseError::EndBit => true,
+                ResponseError::Crc => self.crc,
+                ResponseError::Index => self.index,
+            }
     }
-    if n == 2 {
-        return Event::CommandCrc;
-    }
-    if n == 3 {
-        return Event::CommandEndBit;
-    }
-    Event::CommandIndex
 }
 
 // 010h to 01Fh after a good response.
@@ -53,22 +72,12 @@ fn reply_after(kind: Kind, words: Reply, old: Reply) -> Reply
     match kind {
         Kind::Silent => old,
         Kind::Long => Reply {
-            first: words.first,
-            second: words.second,
-            third: words.third,
             fourth: old.fourth / 0x1000000 * 0x1000000 + words.fourth % 0x1000000,
+            ..words
         },
-        Kind::Short => Reply {
+        Kind::Short | Kind::ShortBusy => Reply {
             first: words.first,
-            second: old.second,
-            third: old.third,
-            fourth: old.fourth,
-        },
-        Kind::ShortBusy => Reply {
-            first: words.first,
-            second: old.second,
-            third: old.third,
-            fourth: old.fourth,
+            ..old
         },
     }
 }
@@ -78,108 +87,92 @@ impl Slot {
     fn good(self, w: Waiting, words: Reply) -> Slot
         ensures { result ≡ good_of self w words }
     {
-        let kind = w.kind;
-        let before = self.dat;
-        let old = self.registers.reply;
-        let r = self.registers.with_reply(reply_after(kind, words, old));
-        let raised = raised_at(r, Event::CommandComplete);
-        let dat = answered_dat(before);
-        self.with_sides(raised, Command::Idle, dat)
+        let reply = reply_after(w.kind, words, self.registers.reply);
+        Slot {
+            registers: raised_at(self.registers.with_reply(reply), Event::CommandComplete),
+            command: Command::Idle,
+            dat: answered_dat(self.dat),
+            ..self
+        }
     }
 
     // A failed response: its error, and the command halts with its own data or busy.
-    fn failed(self, n: u32) -> Slot
-        ensures { result ≡ failed_of self n }
+    fn failed(self, error: ResponseError) -> Slot
+        ensures { result ≡ failed_of self (error_number error) }
     {
-        let before = self.dat;
-        let r = raised_at(self.registers, error_event(n));
-        let dat = awaited_halts(before);
-        self.with_sides(r, Command::Halted, dat)
+        Slot {
+            registers: raised_at(self.registers, error.event()),
+            command: Command::Halted,
+            dat: awaited_halts(self.dat),
+            ..self
+        }
     }
 
     // The response to a command that waits.
-    fn answer(self, w: Waiting, n: u32, words: Reply) -> Stepped
-        ensures { result ≡ answer_of self w n words }
+    fn answer(self, w: Waiting, n: u32, words: Reply) -> Result<Done, Refusal>
+        ensures { result ≡ done_of (answer_of self w n words) }
     {
         if n == 0 {
-            return gives(Answer::Done(0), self.good(w, words));
+            return Ok(self.good(w, words).done(0));
         }
-        if fits_error(w, n) {
-            gives(Answer::Done(0), self.failed(n))
-        } else {
-            gives(Answer::OutOfTurn, self)
+        let error = ResponseError::try_from(n)?;
+        if !w.can_fail(error) {
+            return Err(Refusal::OutOfTurn);
         }
+        Ok(self.failed(error).done(0))
     }
 
     // A response: 0 good, 1 timeout, 2 CRC, 3 end bit, 4 index, with its four words.
     #[tactic(auto, unfolding(crate::specs::Card::respond_of))]
-    pub fn respond(self, n: u32, words: Reply) -> Stepped
-        ensures { result ≡ respond_of self n words }
+    pub fn respond(self, n: u32, words: Reply) -> Result<Done, Refusal>
+        ensures { result ≡ done_of (respond_of self n words) }
     {
-        let command = self.command;
-        match command {
-            Command::Idle => gives(Answer::OutOfTurn, self),
-            Command::Waits(w) => self.answer(w, n, words),
-            Command::Halted => gives(Answer::OutOfTurn, self),
-        }
+        let Command::Waits(w) = self.command else {
+            return Err(Refusal::OutOfTurn);
+        };
+        self.answer(w, n, words)
     }
 
     // A card comes in.
-    pub fn card_in(self) -> Stepped
-        ensures { result ≡ in_of self }
+    pub fn card_in(self) -> Result<Done, Refusal>
+        ensures { result ≡ done_of (in_of self) }
     {
         if self.card {
-            return gives(Answer::OutOfTurn, self);
+            return Err(Refusal::OutOfTurn);
         }
-        let command = self.command;
-        let dat = self.dat;
-        let registers = raised_at(self.registers, Event::CardInsertion);
-        gives(
-            Answer::Done(0),
-            Slot {
-                registers,
-                card: true,
-                level: self.level,
-                command,
-                dat,
-            },
-        )
+        let slot = Slot {
+            registers: raised_at(self.registers, Event::CardInsertion),
+            card: true,
+            ..self
+        };
+        Ok(slot.done(0))
     }
 
     // The card goes out, with power, clock and level, and halts what goes on.
-    pub fn card_out(self) -> Stepped
-        ensures { result ≡ out_of self }
+    pub fn card_out(self) -> Result<Done, Refusal>
+        ensures { result ≡ done_of (out_of self) }
     {
-        if self.card {
-            let before = self.command;
-            let used = self.dat;
-            let registers = raised_at(self.registers.unplug(), Event::CardRemoval);
-            let command = halted_command(before);
-            let dat = halted_dat(used);
-            gives(
-                Answer::Done(0),
-                Slot {
-                    registers,
-                    card: false,
-                    level: false,
-                    command,
-                    dat,
-                },
-            )
-        } else {
-            gives(Answer::OutOfTurn, self)
+        if !self.card {
+            return Err(Refusal::OutOfTurn);
         }
+        let slot = Slot {
+            registers: raised_at(self.registers.unplug(), Event::CardRemoval),
+            card: false,
+            level: false,
+            command: halted_command(self.command),
+            dat: halted_dat(self.dat),
+        };
+        Ok(slot.done(0))
     }
 
     // The card's interrupt level.
-    pub fn set_level(mut self, on: bool) -> Stepped
-        ensures { result ≡ level_of self on }
+    pub fn set_level(self, on: bool) -> Result<Done, Refusal>
+        ensures { result ≡ done_of (level_of self on) }
     {
-        if self.card {
-            self.level = on;
-            gives(Answer::Done(0), self)
-        } else {
-            gives(Answer::OutOfTurn, self)
+        if !self.card {
+            return Err(Refusal::OutOfTurn);
         }
+        let slot = Slot { level: on, ..self };
+        Ok(slot.done(0))
     }
 }

@@ -1,25 +1,57 @@
 // The DAT side: blocks, busy over, data errors, turns.
-ghost use Rattle.std.specs.Prelude.{◌≡◌};
-ghost use Rattle.controller.specs.Data.{counts_of, fallen_block, counted_down, outcome_at, ring_at, passed_of, passed_as, given_of, taken_of, raised_step, busy_over, data_event, data_error, turn_of};
+ghost use Rattle.std.specs.Prelude.{◌≡◌, Ok};
+ghost use Rattle.controller.specs.Slot.{done_of, done_with, done_over};
+ghost use Rattle.controller.specs.Data.{counts_of, fallen_block, counted_down, outcome_at, ring_at, passed_as, given_of, taken_of, raised_step, busy_over, data_number, data_error_of, data_event, data_error, turn_of};
 
-use crate::slot::{Slot, Stepped, gives, raised_at};
-use engine::block::Passed;
-use engine::transfer::{Dat, Outcome};
+use crate::slot::{Done, Slot, raised_at};
+use engine::block::Pass;
+use engine::transfer::{Dat, Outcome, Transfer};
 use registers::block::Registers;
 use registers::interrupt::Event;
-use terms::Answer;
+use terms::Refusal;
+
+// How data can fail.
+#[derive(Clone, Copy, PartialEq, Eq)]
+pub enum DataError {
+    Timeout = 0,
+    Crc = 1,
+    EndBit = 2,
+}
+
+impl TryFrom<u32> for DataError {
+    type Error = Refusal;
+
+    ghost try_from_gives = { λ n r. r ≡ data_error_of n };
+
+    // The error by its number; any other number is out of turn.
+    fn try_from(n: u32) -> Result<Self, Refusal> {
+        match n {
+            0 => Ok(DataError::Timeout),
+            1 => Ok(DataError::Crc),
+            2 => Ok(DataError::EndBit),
+            _ => Err(Refusal::OutOfTurn),
+        }
+    }
+}
+
+impl DataError {
+    // The event that it raises.
+    fn event(self) -> Event
+        ensures { result ≡ data_event (data_number self) }
+    {
+        match self {
+            DataError::Timeout => Event::DataTimeout,
+            DataError::Crc => Event::DataCrc,
+            DataError::EndBit => Event::DataEndBit,
+        }
+    }
+}
 
 // Does Block Count count the blocks of this use?
 fn counts_of(dat: Dat) -> bool
     ensures { result ≡ counts_of dat }
 {
-    match dat {
-        Dat::Free => false,
-        Dat::Busy { answered: _ } => false,
-        Dat::Runs(t) => t.counted,
-        Dat::Stuck => false,
-        Dat::Halted(_) => false,
-    }
+    matches!(dat, Dat::Runs(Transfer { counted: true, .. }))
 }
 
 // 004h to 007h with one block less.
@@ -37,9 +69,8 @@ fn fallen_block(block: u32) -> u32
 fn counted_down(dat: Dat, r: Registers) -> Registers
     ensures { result ≡ counted_down dat r }
 {
-    let block = r.setup.block;
     if counts_of(dat) {
-        r.with_block(fallen_block(block))
+        r.with_block(fallen_block(r.setup.block))
     } else {
         r
     }
@@ -52,7 +83,7 @@ fn outcome_at(outcome: Outcome, r: Registers) -> Registers
     match outcome {
         Outcome::Goes => r,
         Outcome::Completes => raised_at(r, Event::TransferComplete),
-        Outcome::Fails(state) => raised_at(r.with_fault(state), Event::AdmaError),
+        Outcome::Fails(failure) => raised_at(r.with_fault(failure.byte()), Event::AdmaError),
     }
 }
 
@@ -67,133 +98,84 @@ fn ring_at(int: bool, r: Registers) -> Registers
     }
 }
 
-// The event of a data error: 0 timeout, 1 CRC, else end bit.
-fn data_event(n: u32) -> Event
-    ensures { result ≡ data_event n }
-{
-    if n == 0 {
-        return Event::DataTimeout;
-    }
-    if n == 1 {
-        return Event::DataCrc;
-    }
-    Event::DataEndBit
-}
-
 impl Slot {
     // A block event is done: Block Count falls where it counts, and the end is told.
-    fn passed(self, dat: Dat, outcome: Outcome) -> Slot
-        ensures { result ≡ passed_of self dat outcome }
+    fn passed(self, pass: Pass) -> Done
+        ensures { Ok result ≡ done_of (passed_as self (record { answer = Ok pass.count; dat = pass.dat; outcome = pass.outcome })) }
     {
-        let command = self.command;
-        let before = self.dat;
-        let r = outcome_at(outcome, counted_down(before, self.registers));
-        self.with_sides(r, command, dat)
+        let slot = Slot {
+            registers: outcome_at(pass.outcome, counted_down(self.dat, self.registers)),
+            dat: pass.dat,
+            ..self
+        };
+        slot.done(pass.count)
     }
 
-    // The answer to a block event, and the slot after it: as it was where the event is refused.
-    fn block_passed(self, got: Passed) -> Stepped
-        ensures { result ≡ passed_as self got }
+    // The card gives a block. Refused, the buffer too stays as it is.
+    pub fn given(self, buffer: &mut [u8], bytes: &[u8]) -> Result<Done, Refusal>
+        ensures { (result, buffer.new) ≡ done_with (given_of self buffer.old bytes.now) }
     {
-        let answer = got.answer;
-        let dat = got.dat;
-        let outcome = got.outcome;
-        if answer.number() == 0 {
-            gives(answer, self.passed(dat, outcome))
-        } else {
-            gives(answer, self)
-        }
+        let pass = self.dat.given(buffer, bytes)?;
+        Ok(self.passed(pass))
     }
 
-    // The card gives a block.
-    pub fn given(self, buffer: &mut [u8], bytes: &[u8]) -> Stepped
-        ensures { (result, buffer.new) ≡ given_of self buffer.old bytes.now }
+    // The card takes a block, into the first bytes of the lent room. Refused, the room too stays as it is.
+    pub fn taken(self, buffer: &[u8], room: &mut [u8]) -> Result<Done, Refusal>
+        ensures { (result, room.new) ≡ done_with (taken_of self buffer.now room.old) }
     {
-        let dat = self.dat;
-        self.block_passed(dat.given(buffer, bytes))
-    }
-
-    // The card takes a block, into the first bytes of the lent room.
-    pub fn taken(self, buffer: &[u8], room: &mut [u8]) -> Stepped
-        ensures { (result, room.new) ≡ taken_of self buffer.now room.old }
-    {
-        let dat = self.dat;
-        self.block_passed(dat.taken(buffer, room))
+        let pass = self.dat.taken(buffer, room)?;
+        Ok(self.passed(pass))
     }
 
     // The DAT side is as given, and an event is raised.
-    fn told(self, dat: Dat, event: Event) -> Stepped
-        ensures { result ≡ raised_step self dat event }
+    fn told(self, dat: Dat, event: Event) -> Done
+        ensures { Ok result ≡ done_of (raised_step self dat event) }
     {
-        let command = self.command;
-        let r = raised_at(self.registers, event);
-        gives(Answer::Done(0), self.with_sides(r, command, dat))
+        let slot = Slot {
+            registers: raised_at(self.registers, event),
+            dat,
+            ..self
+        };
+        slot.done(0)
     }
 
     // The busy of a response is over.
     #[tactic(auto, unfolding(crate::specs::Data::busy_over))]
-    pub fn busy_over(self) -> Stepped
-        ensures { result ≡ busy_over self }
+    pub fn busy_over(self) -> Result<Done, Refusal>
+        ensures { result ≡ done_of (busy_over self) }
     {
-        let dat = self.dat;
-        match dat {
-            Dat::Free => gives(Answer::OutOfTurn, self),
-            Dat::Busy { answered } => {
-                if answered {
-                    self.told(Dat::Free, Event::TransferComplete)
-                } else {
-                    gives(Answer::OutOfTurn, self)
-                }
-            }
-            Dat::Runs(_) => gives(Answer::OutOfTurn, self),
-            Dat::Stuck => gives(Answer::OutOfTurn, self),
-            Dat::Halted(_) => gives(Answer::OutOfTurn, self),
-        }
+        let Dat::Busy { answered: true } = self.dat else {
+            return Err(Refusal::OutOfTurn);
+        };
+        Ok(self.told(Dat::Free, Event::TransferComplete))
     }
 
-    // A data error: 0 timeout, 1 CRC, 2 end bit.
+    // A data error: 0 timeout, 1 CRC, 2 end bit; a busy knows the first alone.
     #[tactic(auto, unfolding(crate::specs::Data::data_error))]
-    pub fn data_error(self, n: u32) -> Stepped
-        ensures { result ≡ data_error self n }
+    pub fn data_error(self, n: u32) -> Result<Done, Refusal>
+        ensures { result ≡ done_of (data_error self n) }
     {
-        let dat = self.dat;
-        match dat {
-            Dat::Free => gives(Answer::OutOfTurn, self),
-            Dat::Busy { answered } => {
-                if answered & (n == 0) {
-                    self.told(Dat::Stuck, data_event(n))
-                } else {
-                    gives(Answer::OutOfTurn, self)
-                }
-            }
-            Dat::Runs(t) => {
-                let way = t.way;
-                if t.answered & (n < 3) {
-                    self.told(Dat::Halted(way), data_event(n))
-                } else {
-                    gives(Answer::OutOfTurn, self)
-                }
-            }
-            Dat::Stuck => gives(Answer::OutOfTurn, self),
-            Dat::Halted(_) => gives(Answer::OutOfTurn, self),
-        }
+        let error = DataError::try_from(n)?;
+        let dat = match self.dat {
+            Dat::Busy { answered: true } if error == DataError::Timeout => Dat::Stuck,
+            Dat::Runs(t) if t.answered => Dat::Halted(t.way),
+            _ => return Err(Refusal::OutOfTurn),
+        };
+        Ok(self.told(dat, error.event()))
     }
 
-    // A turn of the engine, with the buffer and the lent memory.
-    pub fn turn(self, buffer: &mut [u8], mem: &mut [u8]) -> Stepped
-        ensures { (result, buffer.new, mem.new) ≡ turn_of self buffer.old mem.old }
+    // A turn of the engine, with the buffer and the lent memory. Refused, both stay as they are.
+    #[tactic(auto, using(crate::proofs::Turned::turn_told))]
+    pub fn turn(self, buffer: &mut [u8], mem: &mut [u8]) -> Result<Done, Refusal>
+        ensures { (result, buffer.new, mem.new) ≡ done_over (turn_of self buffer.old mem.old) }
     {
-        let command = self.command;
-        let before = self.dat;
-        let got = before.turn(self.registers.adma.low, buffer, mem);
-        let answer = got.answer;
-        let dat = got.dat;
-        let outcome = got.outcome;
-        let r = self.registers.with_low(got.table);
-        let rung = ring_at(got.int, r);
-        gives(
-            answer,
-            self.with_sides(outcome_at(outcome, rung), command, dat),
-        )
+        let turn = self.dat.turn(self.registers.adma.low, buffer, mem)?;
+        let rung = ring_at(turn.int, self.registers.with_low(turn.table));
+        let slot = Slot {
+            registers: outcome_at(turn.outcome, rung),
+            dat: turn.dat,
+            ..self
+        };
+        Ok(slot.done(turn.count))
     }
 }

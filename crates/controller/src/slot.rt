@@ -1,20 +1,34 @@
 // The slot: its registers, its card, the command that waits, and the use of the DAT side.
-ghost use Rattle.std.specs.Prelude.{◌≡◌};
-ghost use Rattle.controller.specs.Slot.{power_on, way_used, use_of, occupied, facts_of, line_now, awaited_halts, halted_dat, halted_command, answered_dat, raised_at, with_sides, stepped_as};
+ghost use Rattle.std.specs.Prelude.{◌≡◌, Ok};
+ghost use Rattle.controller.specs.Slot.{power_on, use_of, occupied, facts_of, line_now, awaited_halts, halted_dat, halted_command, answered_dat, raised_at, stepped_as, done_of};
+ghost use Rattle.controller.specs.Command.{kind_of};
 
-use engine::transfer::{Dat, Way};
+use engine::transfer::{Dat, Transfer, Way};
 use registers::block::Registers;
 use registers::interrupt::Event;
 use registers::word::{Facts, Use};
-use terms::Answer;
 
 // The response types of a command, 00Eh bits 1-0: 00b, 01b, 10b and 11b.
-#[derive(Clone, Copy)]
+#[derive(Clone, Copy, PartialEq, Eq)]
 pub enum Kind {
-    Silent,
-    Long,
-    Short,
-    ShortBusy,
+    Silent = 0,
+    Long = 1,
+    Short = 2,
+    ShortBusy = 3,
+}
+
+impl From<u8> for Kind {
+    ghost from_gives = { λ n kind. kind ≡ kind_of n };
+
+    // The response type by its number.
+    fn from(n: u8) -> Kind {
+        match n {
+            0 => Kind::Silent,
+            1 => Kind::Long,
+            2 => Kind::Short,
+            _ => Kind::ShortBusy,
+        }
+    }
 }
 
 // A command that waits: its response type, and the checks that its response goes through.
@@ -42,20 +56,11 @@ pub struct Slot {
     pub dat: Dat,
 }
 
-// What an entry gives: the answer, and the slot after it.
+// What a step that is done gives: its value, and the slot after it. A refused one gives neither: the slot stays as it is.
 #[derive(Clone, Copy)]
-pub struct Stepped {
-    pub answer: Answer,
+pub struct Done {
+    pub value: u32,
     pub slot: Slot,
-}
-
-fn way_used(way: Way) -> Use
-    ensures { result ≡ way_used way }
-{
-    match way {
-        Way::Read => Use::Read,
-        Way::Write => Use::Write,
-    }
 }
 
 // The use of the DAT side, as Present State shows it.
@@ -64,13 +69,15 @@ pub(crate) fn use_of(dat: Dat) -> Use
 {
     match dat {
         Dat::Free => Use::Free,
-        Dat::Busy { answered: _ } => Use::Busy,
-        Dat::Runs(t) => {
-            let way = t.way;
-            way_used(way)
-        }
-        Dat::Stuck => Use::Busy,
-        Dat::Halted(way) => way_used(way),
+        Dat::Busy { .. } | Dat::Stuck => Use::Busy,
+        Dat::Runs(Transfer { way: Way::Read, .. }) | Dat::Halted(Way::Read) => Use::Read,
+        Dat::Runs(
+            Transfer {
+                way: Way::Write,
+                ..
+            },
+        )
+        | Dat::Halted(Way::Write) => Use::Write,
     }
 }
 
@@ -78,11 +85,7 @@ pub(crate) fn use_of(dat: Dat) -> Use
 pub(crate) fn is_occupied(command: Command) -> bool
     ensures { result ≡ occupied command }
 {
-    match command {
-        Command::Idle => false,
-        Command::Waits(_) => true,
-        Command::Halted => true,
-    }
+    !matches!(command, Command::Idle)
 }
 
 // A command that waits is halted.
@@ -90,9 +93,8 @@ pub(crate) fn halted_command(command: Command) -> Command
     ensures { result ≡ halted_command command }
 {
     match command {
-        Command::Idle => Command::Idle,
         Command::Waits(_) => Command::Halted,
-        Command::Halted => Command::Halted,
+        other => other,
     }
 }
 
@@ -101,14 +103,9 @@ pub(crate) fn halted_dat(dat: Dat) -> Dat
     ensures { result ≡ halted_dat dat }
 {
     match dat {
-        Dat::Free => Dat::Free,
-        Dat::Busy { answered: _ } => Dat::Stuck,
-        Dat::Runs(t) => {
-            let way = t.way;
-            Dat::Halted(way)
-        }
-        Dat::Stuck => Dat::Stuck,
-        Dat::Halted(way) => Dat::Halted(way),
+        Dat::Busy { .. } => Dat::Stuck,
+        Dat::Runs(t) => Dat::Halted(t.way),
+        other => other,
     }
 }
 
@@ -117,24 +114,9 @@ pub(crate) fn awaited_halts(dat: Dat) -> Dat
     ensures { result ≡ awaited_halts dat }
 {
     match dat {
-        Dat::Free => Dat::Free,
-        Dat::Busy { answered } => {
-            if answered {
-                Dat::Busy { answered: true }
-            } else {
-                Dat::Stuck
-            }
-        }
-        Dat::Runs(t) => {
-            let way = t.way;
-            if t.answered {
-                Dat::Runs(t)
-            } else {
-                Dat::Halted(way)
-            }
-        }
-        Dat::Stuck => Dat::Stuck,
-        Dat::Halted(way) => Dat::Halted(way),
+        Dat::Busy { answered: false } => Dat::Stuck,
+        Dat::Runs(t) if !t.answered => Dat::Halted(t.way),
+        other => other,
     }
 }
 
@@ -143,26 +125,10 @@ pub(crate) fn answered_dat(dat: Dat) -> Dat
     ensures { result ≡ answered_dat dat }
 {
     match dat {
-        Dat::Free => Dat::Free,
-        Dat::Busy { answered: _ } => Dat::Busy { answered: true },
+        Dat::Busy { .. } => Dat::Busy { answered: true },
         Dat::Runs(t) => Dat::Runs(t.respond()),
-        Dat::Stuck => Dat::Stuck,
-        Dat::Halted(way) => Dat::Halted(way),
+        other => other,
     }
-}
-
-// An event is raised in the register block.
-pub(crate) fn raised_at(r: Registers, event: Event) -> Registers
-    ensures { result ≡ raised_at event r }
-{
-    let i = r.interrupts;
-    r.with_interrupts(i.raise(event))
-}
-
-pub(crate) fn gives(answer: Answer, slot: Slot) -> Stepped
-    ensures { result ≡ stepped_as answer slot }
-{
-    Stepped { answer, slot }
 }
 
 impl Slot {
@@ -170,9 +136,8 @@ impl Slot {
     pub fn power_on() -> Slot
         ensures { result ≡ power_on }
     {
-        let registers = Registers::power_on();
         Slot {
-            registers,
+            registers: Registers::power_on(),
             card: false,
             level: false,
             command: Command::Idle,
@@ -184,12 +149,9 @@ impl Slot {
     pub(crate) fn facts(self) -> Facts
         ensures { result ≡ facts_of self }
     {
-        let command = self.command;
-        let dat = self.dat;
-        let used = use_of(dat);
         Facts {
-            command: is_occupied(command),
-            dat: used,
+            command: is_occupied(self.command),
+            dat: use_of(self.dat),
             card: self.card,
             level: self.level,
         }
@@ -199,20 +161,20 @@ impl Slot {
     pub fn line(self) -> bool
         ensures { result ≡ line_now self }
     {
-        let i = self.registers.interrupts;
-        i.line(self.level)
+        self.registers.interrupts.line(self.level)
     }
 
-    // The slot with other registers and other sides; card and level stay.
-    pub(crate) fn with_sides(self, registers: Registers, command: Command, dat: Dat) -> Slot
-        ensures { result ≡ with_sides self registers command dat }
+    // The slot after a step that is done, with the step's value.
+    pub(crate) fn done(self, value: u32) -> Done
+        ensures { Ok result ≡ done_of (stepped_as (Ok value) self) }
     {
-        Slot {
-            registers,
-            card: self.card,
-            level: self.level,
-            command,
-            dat,
-        }
+        Done { value, slot: self }
     }
+}
+
+// An event is raised in the register block.
+pub(crate) fn raised_at(r: Registers, event: Event) -> Registers
+    ensures { result ≡ raised_at event r }
+{
+    r.with_interrupts(r.interrupts.raise(event))
 }

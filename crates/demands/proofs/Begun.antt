@@ -7,25 +7,23 @@ use mathlib.Core.Logic.{◌≢◌}
 use mathlib.Core.Bool.{true, false, not, ◌&&◌, or-true, true≢false}
 use lib.Dec.{ltb}
 use borrow.Author.Tests.{ltb-false}
-use Rattle.terms.specs.Answers.{number_of}
-use Rattle.terms.specs.declared.Answer.{Answer}
+use Rattle.std.specs.Prelude.{Option, Some, None}
+use Rattle.terms.specs.Answers.{Answer, number_of}
 use Rattle.registers.specs.Block.{bus_power, bus_clock}
 use Rattle.registers.specs.Place.{issues, target_of}
 use Rattle.registers.specs.Word.{in_use}
 use Rattle.registers.specs.declared.block.Registers.{Registers}
 use Rattle.registers.specs.declared.place.Edit.{Edit}
 use Rattle.registers.specs.declared.place.Target.{Target}
-use Rattle.registers.specs.declared.place.Target.TheVariants.{Nowhere, At}
 use Rattle.registers.proofs.Tests.{fails}
 use Rattle.engine.specs.Transfer.{issued}
 use Rattle.engine.specs.declared.transfer.Dat.{Dat}
 use Rattle.controller.specs.Access.{write_at}
 use Rattle.controller.specs.Command.{request_of, is_abort, uses_dat, not_carried, blocks_asked, way_asked, dat_issued, would_be, judged, command_step}
-use Rattle.controller.specs.Slot.{use_of, occupied}
+use Rattle.controller.specs.Slot.{Stepped, use_of, occupied}
 use Rattle.controller.specs.Steps.{World, plain, step_of}
 use Rattle.controller.specs.declared.command.Request.{Request}
 use Rattle.controller.specs.declared.slot.Command.TheVariants.{Waits}
-use Rattle.controller.specs.declared.slot.Stepped.{Stepped}
 use Rattle.controller.specs.declared.slot.Waiting.{Waiting}
 use Rattle.controller.proofs.Causes.{by_test}
 use Rattle.demands.specs.Issued.{asked, Issued, blocks_of, size_of, way_of}
@@ -84,9 +82,9 @@ module _ (w : World) where
       Q : Answer → Type 0
       Q a = P (judged w.slot r q a)
 
-  aimed : (t : Target) (offset width : ℕ) → issues offset width ≡ true → P (write_at t w.slot offset width)
-  aimed Nowhere offset width i = λ z. absurd (omega arith)
-  aimed (At word e) offset width i = rw i (commanded e)
+  aimed : (t : Option Target) (offset width : ℕ) → issues offset width ≡ true → P (write_at t w.slot offset width)
+  aimed None offset width i = λ z. absurd (omega arith)
+  aimed (Some t) offset width i = rw i (commanded t.edit)
 
 -- "A data command that has just issued, for B blocks"
 pub begun : (w : World) → Issued w → Begun w

@@ -6,6 +6,7 @@ use mathlib.Core.Path.{◌≡◌, refl, sym, ◌∙◌, subst}
 use mathlib.Core.Logic.{◌≢◌}
 use mathlib.Core.Bool.{true, false, and-false, false≢true}
 use borrow.Author.Tests.{eq-eqb, ne_eqb, lt-ltb}
+use Rattle.std.specs.Prelude.{Option, Some}
 use Rattle.terms.specs.Answers.{number_of}
 use Rattle.registers.specs.Bits.{bit_of}
 use Rattle.registers.specs.Place.{words, find, word_at, place_of, lanes_of, placed_of, target_of, guarded}
@@ -19,16 +20,14 @@ use Rattle.registers.specs.declared.block.Reply.{Reply}
 use Rattle.registers.specs.declared.place.Taker.TheVariants.{Status}
 use Rattle.registers.specs.declared.place.Word.TheVariants.{Takes}
 use Rattle.registers.specs.declared.place.Target.{Target}
-use Rattle.registers.specs.declared.place.Target.TheVariants.{At}
 use Rattle.registers.proofs.Standing.{raise_sets, raise_keeps, acknowledge_clears}
 use Rattle.registers.proofs.Events.{event_one, event_apart, event_fits}
-use Rattle.controller.specs.Slot.{use_of, raised_at}
+use Rattle.controller.specs.Slot.{Stepped, use_of, raised_at}
 use Rattle.controller.specs.Access.{write_at}
 use Rattle.controller.specs.Card.{respond_to, respond_of}
 use Rattle.controller.specs.Steps.{write, response, World, step_of}
 use Rattle.controller.specs.declared.slot.Command.{Command}
 use Rattle.controller.specs.declared.slot.Command.TheVariants as command
-use Rattle.controller.specs.declared.slot.Stepped.{Stepped}
 use Rattle.controller.proofs.Causes.{by_test}
 use Rattle.demands.specs.Line.{stands, enabled, Held, acknowledging, KeepsOther}
 use Rattle.demands.proofs.Held.{stays_one, unmuted_one, line_held, held}
@@ -69,7 +68,7 @@ response_raises w words done on = held CommandComplete _ (go w.slot.command done
 -- ---- two bits
 
 -- 030h written with a 1 for one event alone
-aim : (one : Event) → target_of 0x030 4 (event_set one) ≡ At (Takes Status) (record { lanes = lanes_of 0 4; bits = event_set one })
+aim : (one : Event) → target_of 0x030 4 (event_set one) ≡ Some (record { word = Takes Status; edit = record { lanes = lanes_of 0 4; bits = event_set one } })
 unfolding target_of place_of placed_of word_at words find
 aim one = simp (lt-ltb (event_set one) (2 ^ 32) (event_fits one), mul-one)
 
@@ -77,7 +76,7 @@ aim one = simp (lt-ltb (event_set one) (2 ^ 32) (event_fits one), mul-one)
 clears : (one : Event) (w : World) → stands one (acknowledging one w) ≡ false
 unfolding step_of take_of take_from guarded
 clears one w =
-    subst (λ (t : Target). stands one (write_at t w.slot 0x030 4).slot ≡ false) (sym (aim one))
+    subst (λ (t : Option Target). stands one (write_at t w.slot 0x030 4).slot ≡ false) (sym (aim one))
     (by_test (λ (x : Stepped). stands one x.slot ≡ false) (inhibits (use_of w.slot.dat) 0x030 4)
     (λ g. absurd (false≢true (sym (and-false (in_use (use_of w.slot.dat))) ∙ g)))
     (λ g. acknowledge_clears (event_set one) w.slot.registers.interrupts (event_bit one) (own_bit one)))

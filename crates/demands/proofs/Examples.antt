@@ -11,7 +11,9 @@ use Rattle.terms.specs.Counts.{blocks}
 use Rattle.table.specs.Bench.{memory}
 use Rattle.table.specs.Line.{line_bytes, byte_of, length_of, address_of, flags_of}
 use Rattle.table.specs.Fetch.{fetch_of}
-use Rattle.table.specs.Trace.{Kind, limit, onward, along, trace_of}
+use Rattle.table.specs.Trace.{onward, along, trace_of}
+use Rattle.table.specs.declared.survey.Kind.{Kind}
+use Rattle.table.specs.declared.survey.Kind.TheVariants.{Limit}
 use Rattle.table.specs.Survey.{kind_of}
 use Rattle.registers.specs.Bits.{bit_of, without, put}
 use Rattle.registers.specs.Place.{words, find, word_at, place_of, ones_of, lanes_of, placed_of, target_of, guarded}
@@ -129,7 +131,7 @@ read_begins mem =
     record { before = before mem; offset = 0x00C; width = 4; value = 0x113A0011; issuing = refl; accepted = refl; leads = refl; with_data = refl }
 
 -- a table whose kind is 0 or 1 does not meet the limit
-not_limit : (k : Kind) (n : ℕ) → kind_of k ≡ n → n < 2 → k ≢ limit
+not_limit : (k : Kind) (n : ℕ) → kind_of k ≡ n → n < 2 → k ≢ Limit
 not_limit k n e h f = omega (arith, ap kind_of f)
 
 -- what demand 3 asks of such a command, a memory, and a table of one line that ends well or in an error

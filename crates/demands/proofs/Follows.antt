@@ -6,6 +6,8 @@ use mathlib.Core.List.{List, [], ◌++◌, append-nil}
 use mathlib.Core.Bool.{Bool, true, false, cond, not}
 use lib.ListN.{take}
 use Rattle.terms.specs.Answers.{value_of, is_done}
+use Rattle.table.specs.Fetch.{byte_of}
+use Rattle.table.specs.declared.fetch.Failure.{Failure}
 use Rattle.registers.specs.Block.{with_low}
 use Rattle.registers.specs.declared.block.Adma.{Adma}
 use Rattle.registers.specs.declared.block.Registers.{Registers}
@@ -13,14 +15,13 @@ use Rattle.registers.specs.declared.block.Reply.{Reply}
 use Rattle.engine.specs.Transfer as transfer
 use Rattle.engine.specs.Transfer.{runs_of}
 use Rattle.engine.specs.Turn.{turn_of}
-use Rattle.engine.specs.Block.{given_of, taken_of}
+use Rattle.engine.specs.Block.{Passed, given_of, taken_of}
 use Rattle.engine.specs.Run as engine
 use Rattle.engine.specs.Run.{told_of, awaits_of, replied_of, after_reply, after_turn, after_block}
 use Rattle.engine.specs.declared.transfer.Dat.{Dat}
 use Rattle.engine.specs.declared.transfer.Dat.TheVariants.{Free, Busy, Runs, Stuck, Halted}
 use Rattle.engine.specs.declared.transfer.Outcome.{Outcome}
 use Rattle.engine.specs.declared.transfer.Outcome.TheVariants.{Goes, Completes, Fails}
-use Rattle.engine.specs.declared.block.Passed.{Passed}
 use Rattle.engine.proofs.Worlds.{told_goes}
 use Rattle.controller.specs.Slot.{with_sides, stepped_as, answered_dat}
 use Rattle.controller.specs.Card.{respond_to, respond_of}
@@ -54,7 +55,7 @@ pub record Follows (w : World) (v : engine.World) : Type 0 where
   pub waits : Beside w.slot.dat w.slot.command
   -- nothing is told while a transfer runs; 054h is the byte of the failure told
   pub silent : runs_of v.dat ≡ true → v.told ≡ Goes
-  pub fault : (state : ℕ) → v.told ≡ Fails state → w.slot.registers.adma.fault ≡ state
+  pub fault : (f : Failure) → v.told ≡ Fails f → w.slot.registers.adma.fault ≡ byte_of f
   -- the DAT side carries data, or did: nothing in such a run makes it busy
   pub carrying : carries v.dat ≡ true
 
@@ -63,7 +64,7 @@ pub record Follows (w : World) (v : engine.World) : Type 0 where
 -- what `Follows` says beyond that the two worlds are the same
 abbrev pub Tells : Dat → Command → Outcome → ℕ → Type 0
 Tells d c told fault =
-    Beside d c × (runs_of d ≡ true → told ≡ Goes) × ((state : ℕ) → told ≡ Fails state → fault ≡ state) × (carries d ≡ true)
+    Beside d c × (runs_of d ≡ true → told ≡ Goes) × ((f : Failure) → told ≡ Fails f → fault ≡ byte_of f) × (carries d ≡ true)
 
 -- read off two worlds
 pub tale : {w : World} {v : engine.World} → Follows w v → Tells w.slot.dat w.slot.command v.told w.slot.registers.adma.fault
@@ -139,7 +140,7 @@ module _ (w : World) (v : engine.World) (f : Follows w (seen w v)) where
       low : (o : Outcome) → (outcome_at o r).adma.low ≡ r.adma.low
       low Goes = refl
       low Completes = refl
-      low (Fails state) = refl
+      low (Fails f) = refl
 
   -- with the block that passes, by the value of the answer
   blocked : (p : Passed) (x : List ℕ) (block : ℕ → List ℕ) → Leads w.slot.dat p

@@ -6,6 +6,7 @@ use mathlib.Core.Bool.{Bool, true, false, not, ◌&&◌, ◌||◌, or-false, tru
 use lib.Bits.{bit_and}
 use lib.Dec.{eqb, ltb}
 use borrow.Author.Tests.{not-false}
+use Rattle.std.specs.Prelude.{Option, Some, None}
 use Rattle.terms.specs.Answers.{number_of}
 use Rattle.registers.specs.Bits.{bit_of, without}
 use Rattle.registers.specs.Place.{target_of, issues}
@@ -20,10 +21,11 @@ use Rattle.registers.specs.declared.interrupt.Interrupts.{Interrupts}
 use Rattle.registers.specs.declared.place.Edit.{Edit}
 use Rattle.registers.specs.declared.place.Taker.{Taker}
 use Rattle.registers.specs.declared.place.Taker.TheVariants.{System, Block, Argument, Order, Host, Clock, Status, Enabled, Signal, Force, Low, High}
+use Rattle.registers.specs.declared.place.Word.{Word}
 use Rattle.registers.specs.declared.place.Word.TheVariants.{Takes, Tells}
 use Rattle.registers.specs.declared.place.Target.{Target}
-use Rattle.registers.specs.declared.place.Target.TheVariants as target
 use Rattle.registers.specs.declared.reset.Resets.{Resets}
+use Rattle.registers.specs.declared.word.Facts.{Facts}
 use Rattle.registers.specs.declared.block.Registers.{Registers}
 use Rattle.registers.specs.declared.block.Reply.{Reply}
 use Rattle.registers.proofs.Tests.{law}
@@ -36,8 +38,8 @@ use Rattle.engine.specs.Block as block
 use Rattle.engine.specs.declared.transfer.Dat.{Dat}
 use Rattle.engine.specs.declared.transfer.Outcome.{Outcome}
 use Rattle.engine.specs.declared.transfer.Outcome.TheVariants.{Goes, Completes, Fails}
-use Rattle.engine.specs.declared.block.Passed.{Passed}
-use Rattle.controller.specs.Slot.{use_of, line_now, raised_at}
+use Rattle.engine.specs.Block.{Passed}
+use Rattle.controller.specs.Slot.{Stepped, use_of, line_now, raised_at}
 use Rattle.controller.specs.Command.{request_of, judge_of, would_be, command_step}
 use Rattle.controller.specs.Access.{write_at}
 use Rattle.controller.specs.Card.{fits_error, error_event, respond_to, respond_of}
@@ -46,10 +48,9 @@ use Rattle.controller.specs.Steps.{Step, read, write, card_in, card_out, respons
 use Rattle.controller.specs.declared.slot.Command.{Command}
 use Rattle.controller.specs.declared.slot.Command.TheVariants as command
 use Rattle.controller.specs.declared.slot.Slot.{Slot}
-use Rattle.controller.specs.declared.slot.Stepped.{Stepped}
 use Rattle.controller.proofs.Causes.{by_test}
 use Rattle.demands.proofs.Sides.{by_dat}
-use Rattle.demands.specs.Line.{stands, signalled, taker_drops, taker_mutes, aimed_by, writes_so, drops, mutes, Visit, visited, after_visits, Spared, Unmuted, Held}
+use Rattle.demands.specs.Line.{stands, signalled, taker_drops, taker_mutes, word_by, aimed_by, writes_so, drops, mutes, Visit, visited, after_visits, Spared, Unmuted, Held}
 
 -- ---- one step, for whatever is said of the interrupts
 
@@ -122,15 +123,16 @@ module _ (takes : Taker → Edit → ℕ → Bool) (k : ℕ) (P : Interrupts →
       let r = would_be s e in
       by_test Leaves (eqb (number_of (judge_of s (request_of r) (bus_clock r && bus_power r))) 0) (λ d. h) (λ d. h)
 
-  write_keeps : (s : Slot) (offset width : ℕ) (t : Target) → aimed_by takes t k ≡ false → Keeps s → Leaves (write_at t s offset width)
+  word_keeps : (w : Word) (e : Edit) (f : Facts) (r : Registers) → word_by takes w e k ≡ false → P r.interrupts → P (take_of w e f r).interrupts
   unfolding take_of
-  write_keeps s offset width target.Nowhere d h = h
-  write_keeps s offset width (target.At (Takes t) e) d h =
-      by_test Leaves (issues offset width) (λ i. command_keeps s e h)
-      (λ i. by_test Leaves (inhibits (use_of s.dat) offset width) (λ g. h) (λ g. take_keeps t e _ _ s.registers d h))
-  write_keeps s offset width (target.At (Tells t) e) d h =
-      by_test Leaves (issues offset width) (λ i. command_keeps s e h)
-      (λ i. by_test Leaves (inhibits (use_of s.dat) offset width) (λ g. h) (λ g. h))
+  word_keeps (Takes t) e f r d h = take_keeps t e _ _ r d h
+  word_keeps (Tells t) e f r d h = h
+
+  write_keeps : (s : Slot) (offset width : ℕ) (t : Option Target) → aimed_by takes t k ≡ false → Keeps s → Leaves (write_at t s offset width)
+  write_keeps s offset width None d h = h
+  write_keeps s offset width (Some t) d h =
+      by_test Leaves (issues offset width) (λ i. command_keeps s t.edit h)
+      (λ i. by_test Leaves (inhibits (use_of s.dat) offset width) (λ g. h) (λ g. word_keeps t.word t.edit _ s.registers d h))
 
   step_keeps : (w : World) (e : Step) → writes_so takes e k ≡ false → Keeps w.slot → Keeps (step_of w e).world.slot
   unfolding step_of respond_of busy_over data_error

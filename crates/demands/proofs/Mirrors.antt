@@ -6,18 +6,17 @@ use mathlib.Core.Logic.{◌≢◌, inl, inr}
 use mathlib.Core.List.{List, [], ◌∷◌, ◌++◌, append-nil, append_assoc}
 use mathlib.Core.Bool.{Bool, true}
 use Rattle.terms.specs.Answers.{number_of}
-use Rattle.terms.specs.declared.Answer.TheVariants.{Done}
+use Rattle.std.specs.Prelude.{Ok}
 use Rattle.registers.specs.Block.{with_interrupts}
 use Rattle.registers.specs.declared.block.Reply.{Reply}
 use Rattle.registers.specs.declared.interrupt.Interrupts.{Interrupts}
 use Rattle.engine.specs.Run as engine
 use Rattle.engine.proofs.Drive.{run_append}
-use Rattle.controller.specs.Slot.{stepped_as}
+use Rattle.controller.specs.Slot.{Stepped, stepped_as}
 use Rattle.controller.specs.Access.{write_of}
 use Rattle.controller.specs.Data.{busy_over_at, busy_over}
 use Rattle.controller.specs.Steps.{Step, read, write, card_in, card_out, response, block_given, block_taken, busy_over_step, data_error_step, level, turn}
 use Rattle.controller.specs.Steps.{World, plain, step_of}
-use Rattle.controller.specs.declared.slot.Stepped.{Stepped}
 use Rattle.controller.proofs.Causes.{by_test}
 use Rattle.controller.proofs.Refused.{refused}
 use Rattle.demands.specs.Run.{deeds, reached, count_turn, turns_done, passing, passed}
@@ -35,7 +34,7 @@ module _ (w : World) (v : engine.World) (f : Follows w v) where
   -- the card, its level and the interrupts
   still : (card up : Bool) (i : Interrupts)
       → Stays
-      (stepped_as (Done 0)
+      (stepped_as (Ok 0)
       (record { registers = with_interrupts w.slot.registers i; card = card; level = up; command = w.slot.command; dat = w.slot.dat }))
   still card up i = made _ _ f.dat f.table f.buffer f.memory (tale f)
 

@@ -6,7 +6,9 @@ use mathlib.Core.Logic.{◌≢◌, inl, inr}
 use mathlib.Core.List.{List, [], ◌∷◌, ◌++◌}
 use mathlib.Core.Bool.{Bool, true, false, not, ◌&&◌, true≢false, false≢true}
 use Rattle.terms.specs.Answers.{number_of, is_done}
-use Rattle.table.specs.Trace.{Kind, well, fault, limit}
+use Rattle.table.specs.Fetch.{byte_of}
+use Rattle.table.specs.declared.survey.Kind.{Kind}
+use Rattle.table.specs.declared.survey.Kind.TheVariants.{Well, Error, Limit}
 use Rattle.registers.specs.Bits.{bit_of}
 use Rattle.registers.specs.Block.{with_low, with_fault}
 use Rattle.registers.specs.Interrupt.{event_bit}
@@ -22,15 +24,14 @@ use Rattle.engine.specs.Demand.{ends_as}
 use Rattle.engine.specs.declared.transfer.Way.{Way}
 use Rattle.engine.specs.declared.transfer.Dat.{Dat}
 use Rattle.engine.specs.declared.transfer.Dat.TheVariants.{Free, Halted}
-use Rattle.engine.specs.declared.block.Passed.{Passed}
-use Rattle.controller.specs.Slot.{answered_dat, raised_at, with_sides}
+use Rattle.engine.specs.Block.{Passed}
+use Rattle.controller.specs.Slot.{Stepped, answered_dat, raised_at, with_sides}
 use Rattle.controller.specs.Card.{respond_to, respond_of}
 use Rattle.controller.specs.Data.{counts_of, outcome_at, passed_as, busy_over_at, busy_over}
 use Rattle.controller.specs.Steps.{Step, read, write, card_in, card_out, response, block_given, block_taken, busy_over_step, data_error_step, level, turn, World, step_of}
 use Rattle.controller.specs.declared.slot.Command.{Command}
 use Rattle.controller.specs.declared.slot.Command.TheVariants as command
 use Rattle.controller.specs.declared.slot.Slot.{Slot}
-use Rattle.controller.specs.declared.slot.Stepped.{Stepped}
 use Rattle.controller.proofs.Causes.{by_test}
 use Rattle.controller.proofs.Refused.{refused}
 use Rattle.demands.specs.Run.{deeds, reached, running}
@@ -67,9 +68,9 @@ aside_new : (event : Event) (r : Registers) → Aside event → NoneNew r.interr
 aside_new event r n kind h = sym (raised_others event (end_event kind) r (n kind)) ∙ h
 
 aside : (event : Event) → event_bit event ≢ event_bit TransferComplete → event_bit event ≢ event_bit AdmaError → Aside event
-aside event n m well e = n (ap (λ (x : Event). event_bit x) e)
-aside event n m (fault state) e = m (ap (λ (x : Event). event_bit x) e)
-aside event n m limit e = m (ap (λ (x : Event). event_bit x) e)
+aside event n m Well e = n (ap (λ (x : Event). event_bit x) e)
+aside event n m (Error f) e = m (ap (λ (x : Event). event_bit x) e)
+aside event n m Limit e = m (ap (λ (x : Event). event_bit x) e)
 
 -- what an acknowledgement leaves stood before
 left_stood : (a b : Bool) → (a && not b) ≡ true → a ≡ true
@@ -97,7 +98,7 @@ module _ (w : World) (runs : running w ≡ true) where
       go (stays a) e = goes_on e new
       go goes e = goes_on refl new
       go completes e = ends_well r on new refl refl
-      go (fails {state = state}) e = ends_ill (with_fault r state) on new refl refl
+      go (fails {f = f}) e = ends_ill (with_fault r (byte_of f)) on new refl refl
 
   blocked : (p : Passed) → Leads w.slot.dat p → Comes w.slot (passed_as w.slot p).slot
   blocked p l =
@@ -164,9 +165,9 @@ last_fair w (d ∷ es) e (h, hs) = last_fair (step_of w d).world es e hs
 
 -- DAT is halted only after a table that does not go well
 halted_event : (way other : Way) (k : Kind) → ends_as way k ≡ Halted other → end_event k ≡ AdmaError
-halted_event way other well e = cc
-halted_event way other (fault state) e = refl
-halted_event way other limit e = refl
+halted_event way other Well e = cc
+halted_event way other (Error f) e = refl
+halted_event way other Limit e = refl
 
 module _ (w : World) (lines : ℕ) (h : Granted w lines) (es : List Step) (e : Step) (fair : AllFair (deeds w (es ++ e ∷ []))) where
   abbrev here : World

@@ -8,7 +8,11 @@ use mathlib.Core.Bool.{true, false}
 use lib.ListN.{length}
 use lib.Dec.{eqb}
 use Rattle.terms.specs.Answers.{number_of}
-use Rattle.table.specs.Trace.{Area, Kind, well, fault, limit}
+use Rattle.table.specs.Fetch.{byte_of}
+use Rattle.table.specs.Trace.{Area}
+use Rattle.table.specs.declared.fetch.Failure.{Failure}
+use Rattle.table.specs.declared.survey.Kind.{Kind}
+use Rattle.table.specs.declared.survey.Kind.TheVariants.{Well, Error, Limit}
 use Rattle.table.specs.Sound.{Sound}
 use Rattle.table.proofs.Sound.{well_sound, well_exactly, sound_one}
 use Rattle.registers.specs.declared.block.Reply.{Reply}
@@ -19,16 +23,16 @@ use Rattle.engine.specs.Demand.{Premise, end_of, ends_as, Demand}
 use Rattle.engine.specs.declared.transfer.Way.{Way}
 use Rattle.engine.specs.declared.transfer.Dat.TheVariants.{Free, Halted}
 use Rattle.engine.specs.declared.transfer.Outcome.TheVariants.{Completes}
-use Rattle.engine.specs.declared.block.Passed.{Passed}
+use Rattle.engine.specs.Block.{Passed}
 use Rattle.engine.proofs.Demand3.{demand_3}
 use Rattle.engine.proofs.Drive.{run_append, demand_3_ends}
 use Rattle.engine.proofs.Ends.{completed}
 use Rattle.controller.specs.Card.{respond_to, respond_of}
 use Rattle.controller.specs.Data.{passed_as}
+use Rattle.controller.specs.Slot.{Stepped}
 use Rattle.controller.specs.Steps.{Step, response, World, step_of}
 use Rattle.controller.specs.declared.slot.Command.{Command}
 use Rattle.controller.specs.declared.slot.Slot.{Slot}
-use Rattle.controller.specs.declared.slot.Stepped.{Stepped}
 use Rattle.controller.proofs.Causes.{by_test}
 use Rattle.demands.specs.Run.{deeds, reached, turns_done, passed, running}
 use Rattle.demands.specs.Issued.{asked, blocks_of, size_of, way_of, owed_of, table_of, trace_at}
@@ -63,10 +67,10 @@ module _ (w : World) (v : engine.World) (f : Follows w v) where
 -- ---- how an end stands
 
 -- DAT is free only after a table that goes well
-pub free_well : (way : Way) (k : Kind) → ends_as way k ≡ Free → k ≡ well
-free_well way well e = refl
-free_well way (fault state) e = cc
-free_well way limit e = cc
+pub free_well : (way : Way) (k : Kind) → ends_as way k ≡ Free → k ≡ Well
+free_well way Well e = refl
+free_well way (Error f) e = cc
+free_well way Limit e = cc
 
 module _ (w : World) (lines : ℕ) (h : Granted w lines) where
   abbrev start : Begun w
@@ -95,7 +99,7 @@ module _ (w : World) (lines : ℕ) (h : Granted w lines) where
         memory = refl;
         waits = λ a. start.waits;
         silent = λ r. refl;
-        fault = λ state e. cc;
+        fault = λ f e. cc;
         carrying = refl;
       }
 
@@ -123,7 +127,7 @@ module _ (w : World) (lines : ℕ) (h : Granted w lines) where
     done : Completed (reached w es) → running (reached w es) ≡ false
     done c = ap runs_of c
 
-    table_well : Completed (reached w es) → (trace_at w lines).kind ≡ well
+    table_well : Completed (reached w es) → (trace_at w lines).kind ≡ Well
     table_well c = free_well (way_of w) (trace_at w lines).kind (sym (demanded.stands (over (done c))) ∙ sym beside.dat ∙ c)
 
     told : Completed (reached w es) → final.told ≡ Completes
@@ -149,16 +153,16 @@ module _ (w : World) (lines : ℕ) (h : Granted w lines) where
 
     -- "otherwise it ends in the ADMA error that the table gives"
     fails : running (reached w es) ≡ false → (Completed (reached w es) → ⊥) → (k : Kind) → (trace_at w lines).kind ≡ k
-        → (state : ℕ) × ((trace_at w lines).kind ≡ fault state) × ((reached w es).slot.dat ≡ Halted (way_of w))
-        × ((reached w es).slot.registers.adma.fault ≡ state)
-    fails g not well e = absurd (not (beside.dat ∙ demanded.stands (over g) ∙ ap (ends_as (way_of w)) e))
-    fails g not (fault state) e = (
-      state,
+        → (f : Failure) × ((trace_at w lines).kind ≡ Error f) × ((reached w es).slot.dat ≡ Halted (way_of w))
+        × ((reached w es).slot.registers.adma.fault ≡ byte_of f)
+    fails g not Well e = absurd (not (beside.dat ∙ demanded.stands (over g) ∙ ap (ends_as (way_of w)) e))
+    fails g not (Error f) e = (
+      f,
       e,
       beside.dat ∙ demanded.stands (over g) ∙ ap (ends_as (way_of w)) e,
-      beside.fault state (demanded.outcome (over g) ∙ ap end_of e),
+      beside.fault f (demanded.outcome (over g) ∙ ap end_of e),
     )
-    fails g not limit e = absurd (h.reaches e)
+    fails g not Limit e = absurd (h.reaches e)
 
     -- "with those bytes carried in order"
     bytes : Completed (reached w es) → (named : List Area) → Sound w.memory lines (table_of w) (owed_of w) named

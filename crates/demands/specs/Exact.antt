@@ -1,15 +1,16 @@
 -- "Total and refusing", "Exact": demands 1 and 2 over every entry in every world, over every survey and boot check of lent memory, and over every
 -- line to be written. That an entry ends and takes every input is its contract, which has no `requires` and equates it with the definition that is
 -- named here. Assumes nothing: these are definitions.
-use Rattle.std.specs.Prelude.{ℕ, ◌%◌, ◌≤◌, ◌<◌, ◌^◌, ◌≡◌, ◌↔◌, ◌⊎◌, ◌≢◌, List, true, length}
-use Rattle.terms.specs.Counts.{bytes}
-use Rattle.terms.specs.Answers.{number_of, value_of}
+use Rattle.std.specs.Prelude as prelude
+use Rattle.std.specs.Prelude.{ℕ, ◌%◌, ◌≤◌, ◌<◌, ◌^◌, ◌≡◌, ◌↔◌, ◌⊎◌, ◌≢◌, List, true, length, ⊤, Ok, Err}
+use Rattle.terms.specs.Answers.{Answer, number_of, value_of}
+use Rattle.terms.specs.declared.Refusal.{Refusal}
 use Rattle.terms.specs.Bench.{Hold}
 use Rattle.terms.specs.declared.ByteCount.{ByteCount}
 use Rattle.table.specs.Line.{read_of}
 use Rattle.table.specs.Written.{write_of}
-use Rattle.table.specs.Trace.{well}
-use Rattle.table.specs.Survey.{report_with, survey_trace, survey_of, boot_of}
+use Rattle.table.specs.declared.survey.Kind.TheVariants.{Well}
+use Rattle.table.specs.Survey.{survey_trace, survey_of, figures_of, boot_of, yes_of}
 use Rattle.table.specs.declared.line.Line.{Line}
 use Rattle.controller.specs.Bench.{paper_rows}
 use Rattle.controller.specs.Steps.{Step, World, Result, step_of, lent}
@@ -42,15 +43,21 @@ pub record Refusing (w : World) (e : Step) : Type 0 where
 -- of it can change.
 pub record Surveying (mem : List ℕ) (start : ℕ) (owed : ByteCount) (n : ℕ) : Type 0 where
   -- "lent memory over 16,777,216 bytes"; "11 before 12"; "survey limit over 4,096"; and nothing else is refused
-  pub row_11 : (number_of (survey_of mem start owed n).answer ≡ 11) ↔ (16777216 < length mem)
-  pub row_12 : (number_of (survey_of mem start owed n).answer ≡ 12) ↔ ((length mem ≤ 16777216) × (4096 < n))
-  pub row_0 : (number_of (survey_of mem start owed n).answer ≡ 0) ↔ ((length mem ≤ 16777216) × (n ≤ 4096))
+  pub row_11 : (number_of (survey_of mem start owed n) ≡ 11) ↔ (16777216 < length mem)
+  pub row_12 : (number_of (survey_of mem start owed n) ≡ 12) ↔ ((length mem ≤ 16777216) × (4096 < n))
+  pub row_0 : (number_of (survey_of mem start owed n) ≡ 0) ↔ ((length mem ≤ 16777216) × (n ≤ 4096))
   -- "All but 0 have value 0 (each field of a survey too)"
-  pub zeros : number_of (survey_of mem start owed n).answer ≢ 0 → (survey_of mem start owed n).report ≡ report_with 0 0 0 (bytes 0) 0
+  pub zeros : number_of (survey_of mem start owed n) ≢ 0 → figures_of (survey_of mem start owed n)
+      ≡ record { kind = 0; state = 0; lines = 0; bytes = 0; after = 0 }
   -- "The boot check ... says yes exactly on kind 0; 11 is passed on with no."
-  pub boot_11 : (number_of (boot_of mem start owed).answer ≡ 11) ↔ (16777216 < length mem)
-  pub boot_0 : (number_of (boot_of mem start owed).answer ≡ 0) ↔ (length mem ≤ 16777216)
-  pub boot_yes : ((boot_of mem start owed).yes ≡ true) ↔ ((length mem ≤ 16777216) × ((survey_trace mem start owed 0).kind ≡ well))
+  pub boot_11 : (number_of (boot_of mem start owed) ≡ 11) ↔ (16777216 < length mem)
+  pub boot_0 : (number_of (boot_of mem start owed) ≡ 0) ↔ (length mem ≤ 16777216)
+  pub boot_yes : (yes_of (boot_of mem start owed) ≡ true) ↔ ((length mem ≤ 16777216) × ((survey_trace mem start owed 0).kind ≡ Well))
+
+-- the answer to a line to be written: one that is written has value 0
+abbrev pub line_answer : prelude.Result ⊤ Refusal → Answer
+line_answer (Ok done) = Ok 0
+line_answer (Err refusal) = Err refusal
 
 -- demand 1, of a line to be written into lent room
 pub record Writing (room : List ℕ) (l : Line) : Type 0 where
@@ -60,7 +67,7 @@ pub record Writing (room : List ℕ) (l : Line) : Type 0 where
   -- and nothing else
   pub no_other : (number_of (write_of room l).0 ≡ 0) ⊎ (number_of (write_of room l).0 ≡ 17)
   -- "All but 0 have value 0 ... and change nothing."
-  pub nothing : number_of (write_of room l).0 ≢ 0 → (value_of (write_of room l).0 ≡ 0) × ((write_of room l).1 ≡ room)
+  pub nothing : number_of (write_of room l).0 ≢ 0 → (value_of (line_answer (write_of room l).0) ≡ 0) × ((write_of room l).1 ≡ room)
 
 -- demand 2
 pub record Exact : Type 0 where

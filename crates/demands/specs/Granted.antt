@@ -2,7 +2,7 @@
 use Rattle.std.specs.Prelude.{ℕ, ◌+◌, ◌≤◌, ◌≡◌, ◌⊎◌, ◌≢◌, List, [], ◌∷◌, length}
 use Rattle.terms.specs.Answers.{number_of}
 use Rattle.table.specs.Memory.{memory_limit}
-use Rattle.table.specs.Trace.{limit}
+use Rattle.table.specs.declared.survey.Kind.TheVariants.{Limit}
 use Rattle.engine.specs.Demand.{Uncovered}
 use Rattle.controller.specs.Command.{largest_block}
 use Rattle.controller.specs.Steps.{Step, read, write, card_in, card_out, response, block_given, block_taken, busy_over_step, data_error_step, level, turn, World}
@@ -19,7 +19,7 @@ pub record Granted (w : World) (lines : ℕ) : Type 0 where
   -- "the same permitted memory is lent": at most 16,777,216 bytes
   pub permitted : length w.memory ≤ memory_limit
   -- "whose table reaches End or a fault within N lines"
-  pub reaches : (trace_at w lines).kind ≢ limit
+  pub reaches : (trace_at w lines).kind ≢ Limit
   -- "on a read no named data covers a followed line": a failing line is followed too, and counts with all its eight bytes
   pub clear : Uncovered (way_of w) (trace_at w lines)
 

@@ -1,7 +1,8 @@
 -- The interrupt line: an ending raises its bit, and the bit holds the line up, over every run whatever, until it is cleared, reset or loses an
 -- enable. Assumes nothing: these are definitions.
-use Rattle.std.specs.Prelude.{ℕ, ◌≡◌, ◌≢◌, List, [], ◌∷◌, Bool, true, false, not, ◌&&◌, ◌||◌, eqb}
-use Rattle.table.specs.Trace.{Kind, well, fault, limit}
+use Rattle.std.specs.Prelude.{ℕ, ◌≡◌, ◌≢◌, List, [], ◌∷◌, Bool, true, false, not, ◌&&◌, ◌||◌, eqb, Option, Some, None}
+use Rattle.table.specs.declared.survey.Kind.{Kind}
+use Rattle.table.specs.declared.survey.Kind.TheVariants.{Well, Error, Limit}
 use Rattle.registers.specs.Bits.{bit_of}
 use Rattle.registers.specs.Place.{target_of}
 use Rattle.registers.specs.Interrupt.{event_bit, event_set}
@@ -11,9 +12,9 @@ use Rattle.registers.specs.declared.interrupt.Event.TheVariants.{CommandComplete
 use Rattle.registers.specs.declared.place.Edit.{Edit}
 use Rattle.registers.specs.declared.place.Taker.{Taker}
 use Rattle.registers.specs.declared.place.Taker.TheVariants.{System, Block, Argument, Order, Host, Clock, Status, Enabled, Signal, Force, Low, High}
+use Rattle.registers.specs.declared.place.Word.{Word}
 use Rattle.registers.specs.declared.place.Word.TheVariants.{Takes, Tells}
 use Rattle.registers.specs.declared.place.Target.{Target}
-use Rattle.registers.specs.declared.place.Target.TheVariants.{Nowhere, At}
 use Rattle.controller.specs.Slot.{line_now}
 use Rattle.controller.specs.Steps.{Step, read, write, card_in, card_out, response, block_given, block_taken, busy_over_step, data_error_step, level, turn, World, step_of}
 use Rattle.controller.specs.declared.slot.Slot.{Slot}
@@ -66,11 +67,15 @@ taker_mutes Force e k = false
 taker_mutes Low e k = false
 taker_mutes High e k = false
 
--- a write by its target; a word that only tells takes nothing away
-abbrev pub aimed_by : (Taker → Edit → ℕ → Bool) → Target → ℕ → Bool
-aimed_by takes Nowhere k = false
-aimed_by takes (At (Takes w) e) k = takes w e k
-aimed_by takes (At (Tells w) e) k = false
+-- a word that only tells takes nothing away
+abbrev pub word_by : (Taker → Edit → ℕ → Bool) → Word → Edit → ℕ → Bool
+word_by takes (Takes w) e k = takes w e k
+word_by takes (Tells w) e k = false
+
+-- a write by its target
+abbrev pub aimed_by : (Taker → Edit → ℕ → Bool) → Option Target → ℕ → Bool
+aimed_by takes None k = false
+aimed_by takes (Some t) k = word_by takes t.word t.edit k
 
 -- only a write can
 abbrev pub writes_so : (Taker → Edit → ℕ → Bool) → Step → ℕ → Bool
@@ -132,9 +137,9 @@ pub record Held (event : Event) (s : Slot) : Type 0 where
 
 -- Transfer Complete, or the ADMA error
 abbrev pub end_event : Kind → Event
-end_event well = TransferComplete
-end_event (fault state) = AdmaError
-end_event limit = AdmaError  -- `reaches` of `Granted` rules this out
+end_event Well = TransferComplete
+end_event (Error f) = AdmaError
+end_event Limit = AdmaError  -- `reaches` of `Granted` rules this out
 
 -- what a step of a run does, while the transfer runs, to the two bits that an ending raises
 pub record Told (w : World) (lines : ℕ) (es : List Step) (e : Step) : Type 0 where

@@ -2,8 +2,7 @@
 -- slot, the buffer and the memory that the step before it left: "the same permitted memory is lent and nobody else writes it". Assumes nothing:
 -- these are definitions.
 use Rattle.std.specs.Prelude.{ℕ, List, [], ◌∷◌, ◌++◌, Bool, cond, take}
-use Rattle.terms.specs.Answers.{value_of, is_done}
-use Rattle.terms.specs.declared.Answer.{Answer}
+use Rattle.terms.specs.Answers.{Answer, value_of, is_done}
 use Rattle.engine.specs.Transfer.{runs_of}
 use Rattle.engine.specs.Run.{tally}
 use Rattle.controller.specs.Steps.{Step, read, write, card_in, card_out, response, block_given, block_taken, busy_over_step, data_error_step, level, turn, World, Result, step_of}

@@ -1,8 +1,11 @@
 -- "Whole transfers": what demand 3 promises of a world that a run has reached. Assumes nothing: these are definitions.
 use Rattle.std.specs.Prelude.{ℕ, ◌+◌, ◌*◌, ◌≤◌, ◌≡◌, ◌↔◌, List, true, false, length}
 use Rattle.terms.specs.Answers.{number_of}
-use Rattle.table.specs.Trace.{Area, fault}
+use Rattle.table.specs.Fetch.{byte_of}
+use Rattle.table.specs.Trace.{Area}
 use Rattle.table.specs.Sound.{Sound}
+use Rattle.table.specs.declared.fetch.Failure.{Failure}
+use Rattle.table.specs.declared.survey.Kind.TheVariants.{Error}
 use Rattle.registers.specs.declared.block.Reply.{Reply}
 use Rattle.engine.specs.Demand.{Carried, Kept, Delivered}
 use Rattle.engine.specs.declared.transfer.Dat.TheVariants.{Free, Halted}
@@ -39,8 +42,8 @@ pub record Whole (w : World) (lines : ℕ) (es : List Step) : Type 0 where
       → Completed (reached w es) ↔ ((named : List Area) × Sound w.memory lines (table_of w) (owed_of w) named)
   -- "otherwise it ends in the ADMA error that the table gives": halted, with 054h the byte of that error
   pub fails : running (reached w es) ≡ false → (Completed (reached w es) → ⊥)
-      → (state : ℕ) × ((trace_at w lines).kind ≡ fault state) × ((reached w es).slot.dat ≡ Halted (way_of w))
-      × ((reached w es).slot.registers.adma.fault ≡ state)
+      → (f : Failure) × ((trace_at w lines).kind ≡ Error f) × ((reached w es).slot.dat ≡ Halted (way_of w))
+      × ((reached w es).slot.registers.adma.fault ≡ byte_of f)
   -- "with those bytes carried in order": B whole blocks, joined, are the bytes that the table itself names
   pub blocks : Completed (reached w es) → length (passed (deeds w es)) ≡ (owed_of w).0
   pub bytes : Completed (reached w es) → (named : List Area) → Sound w.memory lines (table_of w) (owed_of w) named

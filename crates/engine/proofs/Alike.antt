@@ -38,7 +38,8 @@ module _ (mem other : List ℕ) where
     unfolding along
     along_same owed (Fault state next) h = refl
     along_same owed (Step next last int) h = ap (add_ring int) (onward_same last next owed h)
-    along_same owed (Data next at n last int) h = ap (λ (t : Trace). add_area at n.0 (add_ring int t)) (onward_same last next (less owed n) h)
+    along_same owed (Data next d) h =
+        ap (λ (t : Trace). add_area d.at d.rest.0 (add_ring d.int t)) (onward_same d.last next (less owed d.rest) h)
 
   module _ (long : length other ≡ length mem) where
     fetch_same : (at : ℕ) (owed : ByteCount) → eight other at ≡ eight mem at → fetch_of other at owed ≡ fetch_of mem at owed

@@ -8,8 +8,10 @@ use mathlib.Core.Bool.{Bool, true, false}
 use lib.ListN.{length}
 use Rattle.terms.specs.Counts.{times}
 use Rattle.table.specs.Line.{aligned}
-use Rattle.table.specs.Trace.{Kind, well, limit, trace_of}
-use Rattle.table.specs.Survey.{default_limit, boot_of}
+use Rattle.table.specs.Trace.{trace_of}
+use Rattle.table.specs.declared.survey.Kind.{Kind}
+use Rattle.table.specs.declared.survey.Kind.TheVariants.{Well, Limit}
+use Rattle.table.specs.Survey.{default_limit, boot_of, yes_of}
 use Rattle.table.proofs.Exactly.{boot_yes}
 use Rattle.engine.specs.Transfer.{issued, runs_of}
 use Rattle.engine.specs.Run.{Event, World, run, start}
@@ -19,7 +21,7 @@ use Rattle.engine.proofs.Demand3.{demand_3}
 use Rattle.engine.proofs.Drive.{demand_3_ends}
 use Rattle.engine.proofs.Ends.{end_well, completed}
 
-well_limit : (k : Kind) → k ≡ well → k ≢ limit
+well_limit : (k : Kind) → k ≡ Well → k ≢ Limit
 well_limit k e f = let z : ◌≡◌ {A = ℕ} 0 1 = cc in omega arith
 
 module _ (way : Way) (counted : Bool) (size : ℕ) (blocks : BlockCount) (at : ℕ) (buffer mem : List ℕ) where
@@ -29,14 +31,14 @@ module _ (way : Way) (counted : Bool) (size : ℕ) (blocks : BlockCount) (at : �
 
   -- of a table that reaches End or a fault within 64 lines, the boot check says yes exactly when the transfer completes
   pub boot_exactly : Premise way size blocks (aligned at) buffer mem default_limit → (es : List Event) → runs_of (after es).dat ≡ false
-      → ((boot_of mem at (times blocks size)).yes ≡ true) ↔ ((after es).told ≡ Completes)
+      → (yes_of (boot_of mem at (times blocks size)) ≡ true) ↔ ((after es).told ≡ Completes)
   boot_exactly h es g =
       let d = demand_3 way counted size blocks (aligned at) buffer mem default_limit h es in
       let b = boot_yes mem at (times blocks size) in
       ((λ y. d.outcome g ∙ ap end_of (b.0 y).1), (λ e. b.1 (h.permitted, end_well _ (sym (d.outcome g) ∙ e))))
 
   module _ (positive : 0 < size) (small : size ≤ length buffer) (clear : Uncovered way (trace_of mem default_limit (aligned at) (times blocks size)))
-      (yes : (boot_of mem at (times blocks size)).yes ≡ true) where
+      (yes : yes_of (boot_of mem at (times blocks size)) ≡ true) where
     -- a yes is all that demand 3 asks of memory and table
     pub boot_premise : Premise way size blocks (aligned at) buffer mem default_limit
     boot_premise =

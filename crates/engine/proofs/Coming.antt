@@ -6,10 +6,11 @@ use mathlib.Core.Path.{◌≡◌, refl, ap}
 use mathlib.Core.List.{List, ◌∷◌}
 use mathlib.Core.Bool.{Bool, true, false}
 use Rattle.terms.specs.Counts.{bytes}
-use Rattle.table.specs.Trace.{Area, well, fault, Trace, ends, add_area, ring_of, add_ring, onward, along, trace_of}
+use Rattle.table.specs.Trace.{Area, Trace, ends, add_area, ring_of, add_ring, onward, along, trace_of}
+use Rattle.table.specs.declared.survey.Kind.TheVariants.{Well, Error}
 use Rattle.engine.specs.Transfer.{ending, settled}
 use Rattle.engine.specs.Turn.{seen_table, seen_int, seen, further, done_rest}
-use Rattle.engine.proofs.Names.{Fetched, Fault, Step, Data, Next, Fetch, Move, Stop, Finish, Fail}
+use Rattle.engine.proofs.Names.{Fetched, Fault, Step, Data, Next, Fetch, Move, Stop, Finish, Fail, in_hand}
 
 -- so many bytes from an address on
 abbrev pub area : ℕ → ℕ → Area
@@ -34,14 +35,14 @@ no_ring t = simp zero-add
 -- with so many lines to follow, by memory, 058h, the bytes owed and where the transfer is; a line in hand has yet to ring
 unfoldable pub coming : ℕ → List ℕ → ℕ → ℕ → Next → Trace
 coming n mem table owed Fetch = trace_of mem n table (bytes owed)
-coming n mem table owed (Move rest at last int) =
-    add_area at rest.0 (add_ring int (onward (trace_of mem n) last table (bytes (owed - rest.0))))
-coming n mem table owed Stop = ends well table
-coming n mem table owed Finish = ends well table
-coming n mem table owed (Fail state) = ends (fault state) table
+coming n mem table owed (Move d) =
+    add_area d.at d.rest.0 (add_ring d.int (onward (trace_of mem n) d.last table (bytes (owed - d.rest.0))))
+coming n mem table owed Stop = ends Well table
+coming n mem table owed Finish = ends Well table
+coming n mem table owed (Fail state) = ends (Error state) table
 
 -- the engine has stopped well
-pub ending_comes : (n : ℕ) (mem : List ℕ) (left held table owed : ℕ) → coming n mem table owed (ending left held) ≡ ends well table
+pub ending_comes : (n : ℕ) (mem : List ℕ) (left held table owed : ℕ) → coming n mem table owed (ending left held) ≡ ends Well table
 unfolding coming ending
 ending_comes n mem zero zero table owed = refl
 ending_comes n mem zero (suc held) table owed = refl
@@ -60,9 +61,9 @@ module _ (n : ℕ) (mem : List ℕ) (left held : ℕ) where
   pub seen_comes : (owed : ℕ) (f : Fetched)
       → add_ring (seen_int f) (coming n mem (seen_table f) owed (seen f owed left held)) ≡ along (trace_of mem n) (bytes owed) f
   unfolding coming seen along
-  seen_comes owed (Fault state next) = no_ring (ends (fault state) next)
+  seen_comes owed (Fault state next) = no_ring (ends (Error state) next)
   seen_comes owed (Step next last int) = ap (add_ring int) (settled_comes last next owed)
-  seen_comes owed (Data next at m last int) = no_ring (coming n mem next owed (Move m at last int))
+  seen_comes owed (Data next d) = no_ring (coming n mem next owed (Move d))
 
   -- after a move that leaves so much of the line in hand
   pub further_comes : (rest at : ℕ) (last int : Bool) (table owed : ℕ)
@@ -70,14 +71,14 @@ module _ (n : ℕ) (mem : List ℕ) (left held : ℕ) where
       ≡ with_over at rest (add_ring int (onward (trace_of mem n) last table (bytes (owed - rest))))
   unfolding coming further done_rest left_over
   further_comes zero at last int table owed = rw sub-zero (ap (add_ring int) (settled_comes last table owed))
-  further_comes (suc rest) at last int table owed = no_ring (coming n mem table owed (Move (bytes (suc rest)) at last int))
+  further_comes (suc rest) at last int table owed = no_ring (coming n mem table owed (Move (in_hand (bytes (suc rest)) at last int)))
 
 -- ---- the turns that it may take
 
 -- two for each line to follow, and one for the line in hand
 unfoldable pub weight : ℕ → Next → ℕ
 weight n Fetch = 2 * n
-weight n (Move rest at last int) = suc (2 * n)
+weight n (Move d) = suc (2 * n)
 weight n Stop = 0
 weight n Finish = 0
 weight n (Fail state) = 0
@@ -102,7 +103,7 @@ module _ (n : ℕ) where
   unfolding weight seen
   seen_weight (Fault state next) owed left held = omega arith
   seen_weight (Step next last int) owed left held = omega (arith, settled_weight last owed left held)
-  seen_weight (Data next at m last int) owed left held = omega arith
+  seen_weight (Data next d) owed left held = omega arith
 
   -- a line of which something is left takes one turn more
   pub further_weight : (rest at : ℕ) (last int : Bool) (owed left held : ℕ)

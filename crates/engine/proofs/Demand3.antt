@@ -61,7 +61,7 @@ module _ (counted : Bool) (G : Goal) (n : ℕ) (s : Now) (x : List ℕ) where
   ended : (way : Way) (st : Next) → Stands way G n s x st → runs_of (shows way st).dat ≡ false → Ended way G (shows way st)
   unfolding coming
   ended way Fetch h e = absurd (true≢false e)
-  ended way (Move rest at last int) h e = absurd (true≢false e)
+  ended way (Move d) h e = absurd (true≢false e)
   ended way Stop h e = absurd (true≢false e)
   ended way Finish h e = over way Finish h refl refl refl refl
   ended way (Fail state) h e = over way (Fail state) h refl refl refl refl
@@ -76,7 +76,7 @@ module _ (counted : Bool) (G : Goal) (n : ℕ) (s : Now) (x : List ℕ) where
       → ((shows way st).dat ≡ Free) × (length s.cargo.passed ≡ G.blocks * G.size)
   unfolding Shape
   whole way Fetch i e = let z : ◌≡◌ {A = ℕ} 0 1 = cc in absurd (omega arith)
-  whole way (Move rest at last int) i e = let z : ◌≡◌ {A = ℕ} 0 1 = cc in absurd (omega arith)
+  whole way (Move d) i e = let z : ◌≡◌ {A = ℕ} 0 1 = cc in absurd (omega arith)
   whole way Stop i e = let z : ◌≡◌ {A = ℕ} 0 1 = cc in absurd (omega arith)
   whole way Finish i e = (refl, omega (arith, i.shared, ap (λ (l : ℕ). l * G.size) i.shape.0))
   whole way (Fail state) i e = let z : ◌≡◌ {A = ℕ} 0 1 = cc in absurd (omega arith)
@@ -85,7 +85,7 @@ module _ (counted : Bool) (G : Goal) (n : ℕ) (s : Now) (x : List ℕ) where
     -- one that has not
     lively : (way : Way) (st : Next) → Stands way G n s x st → runs_of (shows way st).dat ≡ true → Open G.size (shows way st)
     lively way Fetch h e = progress counted G permitted n s x way Fetching h s.answered refl
-    lively way (Move rest at last int) h e = progress counted G permitted n s x way (Moving rest at last int) h s.answered refl
+    lively way (Move d) h e = progress counted G permitted n s x way (Moving d) h s.answered refl
     lively way Stop h e = progress counted G permitted n s x way Stopped h s.answered refl
     lively way Finish h e = absurd (false≢true e)
     lively way (Fail state) h e = absurd (false≢true e)

@@ -8,7 +8,10 @@ use mathlib.Core.Bool.{Bool, false}
 use lib.ListN.{length, take, drop, length-append, length-drop}
 use lib.Seq.{paste, length-paste, take-add, take_all, length-take-le}
 use Rattle.terms.specs.Counts.{times}
-use Rattle.table.specs.Trace.{Area, Kind, well, fault, limit, Trace, trace_of, total, named_bytes, fill}
+use Rattle.table.specs.declared.fetch.Failure.{Failure}
+use Rattle.table.specs.Trace.{Area, Trace, trace_of, total, named_bytes, fill}
+use Rattle.table.specs.declared.survey.Kind.{Kind}
+use Rattle.table.specs.declared.survey.Kind.TheVariants.{Well, Error, Limit}
 use Rattle.table.specs.Sound.{Inside, Sound}
 use Rattle.table.proofs.Sound.{well_sound, well_exactly}
 use Rattle.engine.specs.Transfer.{issued, runs_of}
@@ -59,10 +62,10 @@ fill_there mem (a ∷ r) b h k s =
 -- ---- a transfer that has ended
 
 -- only a table that goes well ends in Transfer Complete
-pub end_well : (k : Kind) → end_of k ≡ Completes → k ≡ well
-end_well well e = refl
-end_well (fault state) e = cc
-end_well limit e = cc
+pub end_well : (k : Kind) → end_of k ≡ Completes → k ≡ Well
+end_well Well e = refl
+end_well (Error state) e = cc
+end_well Limit e = cc
 
 -- a list whose first part is as long as the whole is that part
 whole_first : (p r l : List ℕ) → p ++ r ≡ l → length p ≡ length l → p ≡ l
@@ -87,7 +90,7 @@ module _ (way : Way) (counted : Bool) (size : ℕ) (blocks : BlockCount) (table 
       ((λ e. w.0 (end_well trace.kind (sym (demand.outcome g) ∙ e))), (λ s. demand.outcome g ∙ ap end_of (w.1 s)))
 
   -- otherwise it ended in the error that the table gives
-  pub fails_so : runs_of final.dat ≡ false → (state : ℕ) → trace.kind ≡ fault state → final.told ≡ Fails state
+  pub fails_so : runs_of final.dat ≡ false → (state : Failure) → trace.kind ≡ Error state → final.told ≡ Fails state
   fails_so g state e = demand.outcome g ∙ ap end_of e
 
   -- a transfer that has completed found its table sound

@@ -1,5 +1,5 @@
 -- The numbers of a turn, of a block given and of a block taken, each exactly when. Assumes nothing.
-use Prim.Native.Nat.{ℕ, ◌+◌, ◌≤◌, ◌<◌}
+use Prim.Native.Nat.{ℕ, ◌≤◌, ◌<◌}
 use native.Mathlib.Omega.{arith}
 use mathlib.Core.Path.{◌≡◌, refl, sym, ◌∙◌}
 use mathlib.Core.Logic.{◌↔◌, ◌⊎◌, inl, inr, ◌≢◌}
@@ -11,12 +11,13 @@ use borrow.Author.Tests.{ltb-true, ltb-false, eqb-true, eqb-false, lt-ltb, eq-eq
 use Rattle.terms.specs.Counts.{bytes, less, least}
 use Rattle.terms.specs.Answers.{number_of}
 use Rattle.table.specs.Memory.{memory_limit, too_large, in_memory}
-use Rattle.table.specs.Fetch.{move_state, fetch_of}
+use Rattle.table.specs.Fetch.{fetch_of}
+use Rattle.table.specs.declared.fetch.Failure.TheVariants as failure
 use Rattle.engine.specs.Transfer.{runs_of}
 use Rattle.engine.specs.Buffer.{block_of, held_of, ready_of}
-use Rattle.engine.specs.Turn.{refused_as, turned_as, seen_table, seen_int, seen_next, onward_of, done_int, carry_of, moving_of, answered_of, running_of, staged_of, turn_of}
+use Rattle.engine.specs.Turn.{refused_as, turned_as, seen_table, seen_int, seen_next, onward_of, done_int, carry_of, moving_of, answered_of, running_of, staged_of, turn_of, hand_after}
 use Rattle.engine.specs.Block.{kept_as, reads_of, writes_of, may_give, gave_of, give_of, given_of, may_take, took_of, take_of, taken_of}
-use Rattle.engine.proofs.Names.{ByteCount, NotYet, NoTransfer, OutOfTurn, WrongLength, MemoryTooLarge, Way, Read, Write, Stage, Fetching, Moving}
+use Rattle.engine.proofs.Names.{ByteCount, NotYet, NoTransfer, OutOfTurn, WrongLength, MemoryTooLarge, Way, Read, Write, Stage, Fetching, Moving, Hand, Err}
 use Rattle.engine.proofs.Names.{Stopped, Transfer, Dat, Free, Busy, Runs, Stuck, Halted, Next, Fail, Turned, Passed}
 
 -- ---- what all rows use
@@ -49,7 +50,7 @@ pub data Idling : Dat → Type 0 where
 -- 9: "its response awaited, or a move due with the buffer full (write) or empty (read)"
 pub data Premature (room : ℕ) : Dat → Type 0 where
   awaits : {t : Transfer} → t.stage ≢ Stopped → t.answered ≡ false → Premature room (Runs t)
-  no_bytes : {t : Transfer} {rest : ByteCount} {at : ℕ} {last int : Bool} → t.stage ≡ Moving rest at last int
+  no_bytes : {t : Transfer} {hand : Hand} → t.stage ≡ Moving hand
       → (ready_of t.way t.size room t.held).0 ≡ 0 → Premature room (Runs t)
 
 -- 058h after a turn that is done: as it was, or as a fetch leaves it
@@ -59,9 +60,9 @@ pub data Reaches (table : ℕ) (mem : List ℕ) : ℕ → Type 0 where
 
 -- what becomes of a turn: "11, then 10, then 9", or a running transfer does it
 pub data Turns (d : Dat) (table : ℕ) (x mem : List ℕ) : Turned × List ℕ × List ℕ → Type 0 where
-  large : memory_limit < length mem → Turns d table x mem (refused_as d table MemoryTooLarge, x, mem)
-  idle : length mem ≤ memory_limit → Idling d → Turns d table x mem (refused_as d table NoTransfer, x, mem)
-  early : length mem ≤ memory_limit → Premature (length x) d → Turns d table x mem (refused_as d table NotYet, x, mem)
+  large : memory_limit < length mem → Turns d table x mem (refused_as d table (Err MemoryTooLarge), x, mem)
+  idle : length mem ≤ memory_limit → Idling d → Turns d table x mem (refused_as d table (Err NoTransfer), x, mem)
+  early : length mem ≤ memory_limit → Premature (length x) d → Turns d table x mem (refused_as d table (Err NotYet), x, mem)
   done : {t : Transfer} {reached : ℕ} → length mem ≤ memory_limit → (Idling d → ⊥) → (Premature (length x) d → ⊥) → d ≡ Runs t → Reaches table mem reached
       → (owed held count : ByteCount) (int : Bool) (next : Next) (y m : List ℕ) → Turns d table x mem (turned_as t owed held count reached int next, y, m)
 
@@ -91,21 +92,21 @@ module _ (table : ℕ) (x mem : List ℕ) (small : length mem ≤ memory_limit) 
         → Turns (Runs t) table x mem (turned_as t owed held count reached int next, y, m)
     goes a o r = done small (λ i. on (stop i)) (in_time a o) refl r
 
-    moving : {rest : ByteCount} {at : ℕ} {last int : Bool} → t.stage ≡ Moving rest at last int → t.answered ≡ true
-        → Turns (Runs t) table x mem (moving_of t table rest at last int x mem)
+    moving : {hand : Hand} → t.stage ≡ Moving hand → t.answered ≡ true
+        → Turns (Runs t) table x mem (moving_of t table hand x mem)
     unfolding moving_of
-    moving {rest} {at} {last} {int} e a =
+    moving {hand} e a =
         let P = Turns (Runs t) table x mem in
         let ready = ready_of t.way t.size (length x) t.held in
-        let count = least rest ready in
+        let count = least hand.rest ready in
         let owed = less t.owed count in
-        let still = less rest count in
-        let c = carry_of t.way t x mem at count in
+        let still = hand_after hand count in
+        let c = carry_of t.way t x mem hand.at count in
         by_test P (eqb ready.0 0) (λ z. early small (no_bytes e (eqb-true _ _ z)))
-        (λ z. by_test P (in_memory (length mem) at count.0)
-        (λ m. goes a (inr (eqb-false _ _ z)) stays owed c.0 count (done_int still int)
-        (onward_of still (at + count.0) last int owed t.left c.0) c.1 c.2)
-        (λ m. goes a (inr (eqb-false _ _ z)) stays t.owed t.held (bytes 0) false (Fail move_state) x mem))
+        (λ z. by_test P (in_memory (length mem) hand.at count.0)
+        (λ m. goes a (inr (eqb-false _ _ z)) stays owed c.0 count (done_int still.rest still.int)
+        (onward_of still owed t.left c.0) c.1 c.2)
+        (λ m. goes a (inr (eqb-false _ _ z)) stays t.owed t.held (bytes 0) false (Fail failure.Beyond) x mem))
 
   running : (t : Transfer) (s : Stage) → t.stage ≡ s → Turns (Runs t) table x mem (running_of s t table x mem)
   unfolding running_of
@@ -115,7 +116,7 @@ module _ (table : ℕ) (x mem : List ℕ) (small : length mem ≤ memory_limit) 
       let f = fetch_of mem table t.owed in
       let next = seen_next f t.owed t.left (held_of t.size (length x) t.held) in
       answered t on t.answered refl (λ a. goes t on a (inl e) (fetched small t.owed) t.owed t.held (bytes 0) (seen_int f) next x mem)
-  running t (Moving rest at last int) e = let on : t.stage ≢ Stopped = λ s. clash (cc) in answered t on t.answered refl (moving t on e)
+  running t (Moving hand) e = let on : t.stage ≢ Stopped = λ s. clash (cc) in answered t on t.answered refl (moving t on e)
 
   staged : (d : Dat) → Turns d table x mem (staged_of d table x mem)
   unfolding staged_of
@@ -161,8 +162,8 @@ module _ (d : Dat) (table : ℕ) (x mem : List ℕ) where
 
 -- what becomes of one that is due for a block of some size, and of the bytes that a refusal leaves: "7 before 8"
 pub data Passes (Due Wrong Right : ℕ → Type 0) (did : Transfer → Passed × List ℕ) (d : Dat) (room : List ℕ) : Passed × List ℕ → Type 0 where
-  out : ((size : ℕ) → Due size → ⊥) → Passes Due Wrong Right did d room (kept_as d OutOfTurn, room)
-  wrong : {size : ℕ} → Due size → Wrong size → Passes Due Wrong Right did d room (kept_as d WrongLength, room)
+  out : ((size : ℕ) → Due size → ⊥) → Passes Due Wrong Right did d room (kept_as d (Err OutOfTurn), room)
+  wrong : {size : ℕ} → Due size → Wrong size → Passes Due Wrong Right did d room (kept_as d (Err WrongLength), room)
   passed : {t : Transfer} {size : ℕ} → d ≡ Runs t → Due size → Right size → Passes Due Wrong Right did d room (did t)
 
 -- its numbers, each exactly when, if no block is wrong and right

@@ -7,10 +7,13 @@ use mathlib.Core.List.{List, [], ◌∷◌, ◌++◌}
 use mathlib.Core.Bool.{true, false}
 use lib.ListN.{replicate, length-replicate}
 use Rattle.terms.specs.Counts.{times, bytes, blocks}
+use Rattle.table.specs.declared.fetch.Failure.TheVariants as failure
 use Rattle.table.specs.Line.{byte_of, length_of, address_of, flags_of}
 use Rattle.table.specs.Fetch.{fetch_of}
-use Rattle.table.specs.Trace.{Kind, limit, ring_of, onward, along, trace_of}
-use Rattle.table.specs.Survey.{kind_of, boot_of}
+use Rattle.table.specs.Trace.{ring_of, onward, along, trace_of}
+use Rattle.table.specs.declared.survey.Kind.{Kind}
+use Rattle.table.specs.declared.survey.Kind.TheVariants.{Limit}
+use Rattle.table.specs.Survey.{kind_of, boot_of, yes_of}
 use Rattle.table.specs.Bench.{memory}
 use Rattle.engine.specs.Transfer.{ending, settled, issued}
 use Rattle.engine.specs.Turn.{seen, further, done_rest, moving_of, running_of, staged_of}
@@ -28,12 +31,12 @@ abbrev eight : List ℕ
 eight = 0x11 ∷ 0x22 ∷ 0x33 ∷ 0x44 ∷ 0x55 ∷ 0x66 ∷ 0x77 ∷ 0x88 ∷ []
 
 -- what is asked of the paper's memory, whatever its table's first byte, and of one line
-premise : (way : Way) (size : ℕ) (n : BlockCount) (first : ℕ) → 0 < size → size ≤ 512 → (trace_of (memory first 0x10) 1 0 (times n size)).kind ≢ limit
+premise : (way : Way) (size : ℕ) (n : BlockCount) (first : ℕ) → 0 < size → size ≤ 512 → (trace_of (memory first 0x10) 1 0 (times n size)).kind ≢ Limit
     → Uncovered way (trace_of (memory first 0x10) 1 0 (times n size)) → Premise way size n 0 zeros (memory first 0x10) 1
 premise way size n first positive small reaches sure =
     record { positive = positive; small = omega (arith, length-replicate {A = ℕ} 512 0); permitted = omega arith; reaches = reaches; clear = sure }
 
-not_limit : (k : Kind) (n : ℕ) → kind_of k ≡ n → n < 2 → k ≢ limit
+not_limit : (k : Kind) (n : ℕ) → kind_of k ≡ n → n < 2 → k ≢ Limit
 not_limit k n e h f = omega (arith, ap kind_of f)
 
 -- ---- the paper's run: its response, two turns, the block taken
@@ -60,7 +63,7 @@ unfolding next run fetch_of byte_of length_of address_of flags_of ring_of ending
 paper_write = refl
 
 -- the boot check says yes of this table
-pub paper_boot : (boot_of (memory 0x23 0x10) 0 (bytes 8)).yes ≡ true
+pub paper_boot : yes_of (boot_of (memory 0x23 0x10) 0 (bytes 8)) ≡ true
 unfolding trace_of along onward fetch_of byte_of length_of address_of flags_of
 paper_boot = refl
 
@@ -115,7 +118,7 @@ pub fault_run : run (start (issued Write false 8 (blocks 1)) 0 zeros (memory 0x2
     ≡ record {
       dat = Halted Write;
       table = 0;
-      told = Fails 1;
+      told = Fails failure.Unsound;
       buffer = zeros;
       memory = memory 0x22 0x10;
       passed = [];

@@ -50,7 +50,7 @@ Count Read size left owed held = owed ≡ left * size + held
 -- a line in hand has bytes left, all owed and in memory; a stopped engine waits for the last block to be taken; at the end none is left
 unfoldable pub Shape : Way → (size left owed held room : ℕ) → Next → Type 0
 Shape way size left owed held room Fetch = Unit
-Shape way size left owed held room (Move rest at last int) = (0 < rest.0) × (rest.0 ≤ owed) × (at + rest.0 ≤ room)
+Shape way size left owed held room (Move d) = (0 < d.rest.0) × (d.rest.0 ≤ owed) × (d.at + d.rest.0 ≤ room)
 Shape way size left owed held room Stop = (way ≡ Write) × (owed ≡ 0) × (held ≡ size)
 Shape way size left owed held room Finish = (left ≡ 0) × (held ≡ 0)
 Shape way size left owed held room (Fail state) = Unit

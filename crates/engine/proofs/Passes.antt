@@ -39,7 +39,7 @@ reply_keeps way G n s st e i =
 -- where a running transfer is
 abbrev pub phase_of : Stage → Next
 phase_of Fetching = Fetch
-phase_of (Moving rest at last int) = Move rest at last int
+phase_of (Moving d) = Move d
 phase_of Stopped = Stop
 
 -- a block passes, and these bytes are then held
@@ -65,7 +65,7 @@ module _ (G : Goal) (positive : 0 < G.size) where
       → Shape Read G.size left' owed held' room (phase_of stage)
   unfolding Shape
   given_shape left owed held left' held' room Fetching h = tt
-  given_shape left owed held left' held' room (Moving rest at last int) h = h
+  given_shape left owed held left' held' room (Moving d) h = h
   given_shape left owed held left' held' room Stopped h = let z : ◌≡◌ {A = ℕ} 0 1 = cc h.0 in absurd (omega arith)
 
   -- "Block given: running read, its response in, buffer empty, blocks left."
@@ -99,13 +99,13 @@ module _ (G : Goal) (positive : 0 < G.size) where
       → coming n mem table owed (emptied_of stage (blocks left)) ≡ coming n mem table owed (phase_of stage)
   unfolding coming
   emptied_comes n mem table owed left Fetching = refl
-  emptied_comes n mem table owed left (Moving rest at last int) = refl
+  emptied_comes n mem table owed left (Moving d) = refl
   emptied_comes n mem table owed left Stopped = ending_comes n mem left 0 table owed
 
   emptied_weight : (n left : ℕ) (stage : Stage) → weight n (emptied_of stage (blocks left)) ≡ weight n (phase_of stage)
   unfolding weight
   emptied_weight n left Fetching = refl
-  emptied_weight n left (Moving rest at last int) = refl
+  emptied_weight n left (Moving d) = refl
   emptied_weight n left Stopped = ending_weight n left 0
 
   -- a stopped engine was waiting for its last block
@@ -113,7 +113,7 @@ module _ (G : Goal) (positive : 0 < G.size) where
       → Shape Write G.size left' owed 0 room (emptied_of stage (blocks left'))
   unfolding Shape
   emptied_shape left owed held left' room Fetching e h = tt
-  emptied_shape left owed held left' room (Moving rest at last int) e h = h
+  emptied_shape left owed held left' room (Moving d) e h = h
   emptied_shape left owed held left' room Stopped e h = ending_shape G.size positive room Write left' owed 0 h.1 (omega arith) e
 
   -- "Block taken: running write, buffer full"

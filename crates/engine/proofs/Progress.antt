@@ -12,7 +12,7 @@ use Rattle.table.specs.Memory.{memory_limit}
 use Rattle.engine.specs.Buffer.{ready_of}
 use Rattle.engine.specs.Turn.{running_of, staged_of}
 use Rattle.engine.specs.Demand.{Open, by_turn, by_reply, by_given, by_taken}
-use Rattle.engine.proofs.Names.{ByteCount, Way, Read, Write, Stage, Fetching, Moving, Stopped, Transfer, Runs, Next, Turned, Passed}
+use Rattle.engine.proofs.Names.{ByteCount, Way, Read, Write, Stage, Fetching, Moving, Stopped, Transfer, Runs, Next, Turned, Passed, in_hand}
 use Rattle.engine.proofs.Exactly.{gives, gives_may, takes, takes_may}
 use Rattle.engine.proofs.Coming.{weight}
 use Rattle.engine.proofs.Invariant.{Goal, allowed, Cargo, Now, Shape, Inv}
@@ -60,7 +60,7 @@ module _ (counted : Bool) (G : Goal) (permitted : length G.memory ≤ memory_lim
 
   module _ (rest : ByteCount) (at : ℕ) (last int : Bool) where
     abbrev moving : Stage
-    moving = Moving rest at last int
+    moving = Moving (in_hand rest at last int)
 
     move_open : (way : Way) → Stands way G n s x (phase_of moving) → s.answered ≡ true → (ready : ℕ)
         → ready_of way G.size (length x) (bytes (length c.held)) ≡ bytes ready → Open G.size (runs way counted G.size s x moving)
@@ -92,8 +92,8 @@ module _ (counted : Bool) (G : Goal) (permitted : length G.memory ≤ memory_lim
       by_turn
       (ap turn_number
       (turn_small (Runs t) s.table x c.memory (omega (arith, h.inv.long)) ∙ answered_is t s.table x c.memory s.answered true _ e))
-  progress way (Moving rest at last int) h true e =
-      move_open rest at last int way h e (ready_of way G.size (length x) (bytes (length c.held))).0 refl
+  progress way (Moving d) h true e =
+      move_open d.rest d.at d.last d.int way h e (ready_of way G.size (length x) (bytes (length c.held))).0 refl
   progress way Stopped h true e = stop_open way h
 
 -- ---- the bound

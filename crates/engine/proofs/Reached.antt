@@ -10,12 +10,13 @@ use lib.Seq.{paste}
 use Rattle.terms.specs.Counts.{bytes}
 use Rattle.table.specs.Memory.{memory_limit}
 use Rattle.table.specs.Fetch.{fetch_of}
-use Rattle.table.specs.Trace.{limit}
+use Rattle.table.specs.Trace.{}
+use Rattle.table.specs.declared.survey.Kind.TheVariants.{Limit}
 use Rattle.engine.specs.Buffer.{ready_of}
 use Rattle.engine.specs.Turn.{refused_as, seen, further, done_rest, carry_of, moved_of, running_of, staged_of, turn_of}
 use Rattle.terms.specs.Answers.{is_done}
 use Rattle.engine.specs.Run.{go, World, after_turn, next}
-use Rattle.engine.proofs.Names.{ByteCount, Answer, NotYet, NoTransfer, Fetched, Way, Read, Write, Fetching, Moving, Transfer, Dat, Runs, Next, Fetch}
+use Rattle.engine.proofs.Names.{ByteCount, Answer, NotYet, NoTransfer, Fetched, Way, Read, Write, Fetching, Moving, Transfer, Dat, Runs, Next, Fetch, Err, in_hand}
 use Rattle.engine.proofs.Names.{Move, Stop, Finish, Fail}
 use Rattle.engine.proofs.Invariant.{Goal, Cargo, Now, Shape, Inv}
 use Rattle.engine.proofs.Moves.{moved_cargo, loaded, loaded_length, unloaded}
@@ -42,7 +43,7 @@ pub reach : (way : Way) (counted : Bool) (G : Goal) (n : ℕ) (s : Now) (x : Lis
     → w ≡ world way counted G.size s x st → Reached way counted G w
 reach way counted G n s x st h e = record { ahead = n; now = s; buffer = x; phase = st; is = e; stands = h }
 
-module _ (counted : Bool) (G : Goal) (positive : 0 < G.size) (reaches : G.trace.kind ≢ limit) (permitted : length G.memory ≤ memory_limit) where
+module _ (counted : Bool) (G : Goal) (positive : 0 < G.size) (reaches : G.trace.kind ≢ Limit) (permitted : length G.memory ≤ memory_limit) where
   module _ (n : ℕ) (s : Now) (x : List ℕ) where
     abbrev c : Cargo
     c = s.cargo
@@ -66,7 +67,7 @@ module _ (counted : Bool) (G : Goal) (positive : 0 < G.size) (reaches : G.trace.
         → Reached way counted G (next (runs way counted G.size s x Fetching) go)
     unfolding next staged_of running_of
     fetch_leads way h false e =
-        refused_leads way Fetch NotYet refl h
+        refused_leads way Fetch (Err NotYet) refl h
         (answered_is (running way counted G.size s Fetching) s.table x c.memory s.answered false _ e)
     fetch_leads way h true e =
         let t : Transfer = running way counted G.size s Fetching in
@@ -81,19 +82,19 @@ module _ (counted : Bool) (G : Goal) (positive : 0 < G.size) (reaches : G.trace.
 
     module _ (rest : ByteCount) (at : ℕ) (last int : Bool) where
       abbrev hand : Next
-      hand = Move rest at last int
+      hand = Move (in_hand rest at last int)
 
       abbrev transfer : Way → Transfer
-      transfer way = running way counted G.size s (Moving rest at last int)
+      transfer way = running way counted G.size s (Moving (in_hand rest at last int))
 
       abbrev before : Way → World
-      before way = runs way counted G.size s x (Moving rest at last int)
+      before way = runs way counted G.size s x (Moving (in_hand rest at last int))
 
       -- so many bytes are moved, and these are then held, with this buffer and this memory
       moved_leads : (way : Way) (ready : ℕ) (held mem y : List ℕ) → let k = min rest.0 ready in
           Stands way G n s x hand → s.answered ≡ true → ready_of way G.size (length x) (bytes (length c.held)) ≡ bytes ready → 0 < ready
           → carry_of way (transfer way) x c.memory at (bytes k) ≡ (bytes (length held), y, mem) → Shown way G.size held y
-          → (Inv way G n s (Move (bytes (k + (rest.0 - k))) at last int)
+          → (Inv way G n s (Move (in_hand (bytes (k + (rest.0 - k))) at last int))
           → Inv way G n (turned s (moved_cargo c k held mem) s.table (done_rest (rest.0 - k) int))
           (further (rest.0 - k) (at + k) last int (c.owed - k) c.left (length held)))
           → Reached way counted G (next (before way) go)
@@ -105,12 +106,12 @@ module _ (counted : Bool) (G : Goal) (positive : 0 < G.size) (reaches : G.trace.
           let e : rest.0 ≡ k + r = omega arith in
           reach way counted G n (turned s (moved_cargo c k held mem) s.table (done_rest r int)) y
           (further r (at + k) last int (c.owed - k) c.left (length held))
-          (record { shown = shown; inv = keeps (subst (λ (m : ℕ). Inv way G n s (Move (bytes m) at last int)) e h.inv) })
+          (record { shown = shown; inv = keeps (subst (λ (m : ℕ). Inv way G n s (Move (in_hand (bytes m) at last int))) e h.inv) })
           (ap (after_turn (before way))
           (turn_is way hand (Runs t) h
           ∙ answered_is t s.table x c.memory s.answered true _ a
           ∙ moves_is t s.table x c.memory rest at last int ready is some (omega (arith, h.inv.shape.2))
-          ∙ ap (moved_of t s.table rest at last int (bytes k)) put)
+          ∙ ap (moved_of t s.table (in_hand rest at last int) (bytes k)) put)
           ∙ rw dat_counts)
 
       -- by the bytes that the buffer is ready for: none, its room (write) or its content (read)
@@ -119,7 +120,7 @@ module _ (counted : Bool) (G : Goal) (positive : 0 < G.size) (reaches : G.trace.
       unfolding staged_of running_of Shape
       ready_leads way h a zero e =
           let t : Transfer = transfer way in
-          refused_leads way hand NotYet refl h
+          refused_leads way hand (Err NotYet) refl h
           (answered_is t s.table x c.memory s.answered true _ a ∙ waits_is t s.table x c.memory rest at last int 0 e refl)
       ready_leads Write h a (suc r) e =
           let k : ℕ = min rest.0 (suc r) in
@@ -144,7 +145,7 @@ module _ (counted : Bool) (G : Goal) (positive : 0 < G.size) (reaches : G.trace.
 
       move_leads : (way : Way) → Stands way G n s x hand → (a : Bool) → s.answered ≡ a → Reached way counted G (next (before way) go)
       unfolding staged_of running_of
-      move_leads way h false e = refused_leads way hand NotYet refl h (answered_is (transfer way) s.table x c.memory s.answered false _ e)
+      move_leads way h false e = refused_leads way hand (Err NotYet) refl h (answered_is (transfer way) s.table x c.memory s.answered false _ e)
       move_leads way h true e = ready_leads way h e (ready_of way G.size (length x) (bytes (length c.held))).0 refl
 
     -- ---- wherever the transfer is
@@ -153,7 +154,7 @@ module _ (counted : Bool) (G : Goal) (positive : 0 < G.size) (reaches : G.trace.
     pub turn_leads : (way : Way) (st : Next) → Stands way G n s x st → Reached way counted G (next (world way counted G.size s x st) go)
     unfolding staged_of running_of
     turn_leads way Fetch h = fetch_leads way h s.answered refl
-    turn_leads way (Move rest at last int) h = move_leads rest at last int way h s.answered refl
-    turn_leads way Stop h = refused_leads way Stop NoTransfer refl h refl
-    turn_leads way Finish h = refused_leads way Finish NoTransfer refl h refl
-    turn_leads way (Fail state) h = refused_leads way (Fail state) NoTransfer refl h refl
+    turn_leads way (Move d) h = move_leads d.rest d.at d.last d.int way h s.answered refl
+    turn_leads way Stop h = refused_leads way Stop (Err NoTransfer) refl h refl
+    turn_leads way Finish h = refused_leads way Finish (Err NoTransfer) refl h refl
+    turn_leads way (Fail state) h = refused_leads way (Fail state) (Err NoTransfer) refl h refl

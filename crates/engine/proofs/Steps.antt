@@ -12,11 +12,12 @@ use borrow.Author.Tests.{eqb-true, ltb-true}
 use Rattle.terms.specs.Answers.{value_of}
 use Rattle.terms.specs.Counts.{bytes, blocks}
 use Rattle.table.specs.Memory.{memory_limit}
-use Rattle.table.specs.Trace.{limit}
+use Rattle.table.specs.Trace.{}
+use Rattle.table.specs.declared.survey.Kind.TheVariants.{Limit}
 use Rattle.engine.specs.Buffer.{block_of, held_of}
 use Rattle.engine.specs.Block.{may_give, may_take, emptied_of}
 use Rattle.engine.specs.Run.{Event, reply, go, given, taken, World, after_reply, after_block, next, run}
-use Rattle.engine.proofs.Names.{OutOfTurn, WrongLength, Way, Read, Write, Stage, Fetching, Moving, Stopped, Transfer, Next, Fetch, Move, Stop, Finish}
+use Rattle.engine.proofs.Names.{OutOfTurn, WrongLength, Way, Read, Write, Stage, Fetching, Moving, Stopped, Transfer, Next, Fetch, Move, Stop, Finish, Err}
 use Rattle.engine.proofs.Names.{Fail, Passed}
 use Rattle.engine.proofs.Exactly.{both}
 use Rattle.engine.proofs.Invariant.{Goal, Cargo, Now}
@@ -30,7 +31,7 @@ nothing : (l : List ℕ) → length l ≡ 0 → l ≡ []
 nothing [] e = refl
 nothing (a ∷ l) e = absurd (omega arith)
 
-module _ (counted : Bool) (G : Goal) (positive : 0 < G.size) (reaches : G.trace.kind ≢ limit) (permitted : length G.memory ≤ memory_limit) where
+module _ (counted : Bool) (G : Goal) (positive : 0 < G.size) (reaches : G.trace.kind ≢ Limit) (permitted : length G.memory ≤ memory_limit) where
   -- ---- while the transfer runs
 
   module _ (n : ℕ) (s : Now) (x : List ℕ) (stage : Stage) where
@@ -65,9 +66,9 @@ module _ (counted : Bool) (G : Goal) (positive : 0 < G.size) (reaches : G.trace.
           → Stands way G n s x (phase_of stage) → Reached way counted G (next (before way) (given block))
       unfolding next may_give
       give_leads way false full e f h =
-          kept way h (ap (gives way) (give_is (transfer way) x block false full e f) ∙ block_refused (before way) OutOfTurn block refl)
+          kept way h (ap (gives way) (give_is (transfer way) x block false full e f) ∙ block_refused (before way) (Err OutOfTurn) block refl)
       give_leads way true false e f h =
-          kept way h (ap (gives way) (give_is (transfer way) x block true false e f) ∙ block_refused (before way) WrongLength block refl)
+          kept way h (ap (gives way) (give_is (transfer way) x block true false e f) ∙ block_refused (before way) (Err WrongLength) block refl)
       give_leads Write true true e f h = absurd (false≢true e)
       give_leads Read true true e f h =
           let room : G.size ≤ length x = h.shown.room in
@@ -95,9 +96,9 @@ module _ (counted : Bool) (G : Goal) (positive : 0 < G.size) (reaches : G.trace.
           → Stands way G n s x (phase_of stage) → Reached way counted G (next (before way) (taken room))
       unfolding next may_take
       take_leads way false short e f h =
-          kept way h (ap (takes way) (take_is (transfer way) x room false short e f) ∙ block_refused (before way) OutOfTurn (take 0 room) refl)
+          kept way h (ap (takes way) (take_is (transfer way) x room false short e f) ∙ block_refused (before way) (Err OutOfTurn) (take 0 room) refl)
       take_leads way true true e f h =
-          kept way h (ap (takes way) (take_is (transfer way) x room true true e f) ∙ block_refused (before way) WrongLength (take 0 room) refl)
+          kept way h (ap (takes way) (take_is (transfer way) x room true true e f) ∙ block_refused (before way) (Err WrongLength) (take 0 room) refl)
       take_leads Read true false e f h = absurd (false≢true e)
       take_leads Write true false e f h =
           let lent : G.size ≤ length x = h.shown.room in
@@ -131,7 +132,7 @@ module _ (counted : Bool) (G : Goal) (positive : 0 < G.size) (reaches : G.trace.
     leads : (st : Next) (e : Event) → Stands way G n s x st → Reached way counted G (next (world way counted G.size s x st) e)
     unfolding next
     leads Fetch e h = runs_leads Fetching e h
-    leads (Move rest at last int) e h = runs_leads (Moving rest at last int) e h
+    leads (Move d) e h = runs_leads (Moving d) e h
     leads Stop e h = runs_leads Stopped e h
     leads Finish e h = ended_leads Finish e h refl (λ b. refl) (λ b. refl)
     leads (Fail state) e h = ended_leads (Fail state) e h refl (λ b. refl) (λ b. refl)

@@ -9,10 +9,11 @@ use lib.ListN.{length, drop, length-drop}
 use lib.Seq.{paste, length-paste}
 use Rattle.terms.specs.Counts.{bytes}
 use Rattle.table.specs.Fetch.{fetch_of}
-use Rattle.table.specs.Trace.{Area, limit, Trace, add_ring, ring_of, onward, along, trace_of}
+use Rattle.table.specs.Trace.{Area, Trace, add_ring, ring_of, onward, along, trace_of}
+use Rattle.table.specs.declared.survey.Kind.TheVariants.{Limit}
 use Rattle.table.proofs.Laws.{Good, fetch_good}
 use Rattle.engine.specs.Turn.{seen_table, seen_int, seen, further, done_rest}
-use Rattle.engine.proofs.Names.{Fetched, Fault, Step, Data, Way, Read, Write, Next, Fetch, Move}
+use Rattle.engine.proofs.Names.{Fetched, Fault, Step, Data, Way, Read, Write, Next, Fetch, Move, in_hand}
 use Rattle.engine.proofs.Coming.{left_over, with_over, coming, seen_comes, further_comes, weight, seen_weight, further_weight}
 use Rattle.engine.proofs.Invariant.{Goal, Cargo, Now, Count, Shape, Side, Inv, settled_shape}
 use Rattle.engine.proofs.Moves.{moved_cargo, loaded, loaded_length, load_side, unloaded, unload_side}
@@ -36,7 +37,7 @@ module _ (G : Goal) (positive : 0 < G.size) where
   unfolding seen Shape
   seen_shape way left owed held room fits e (Fault state next) g = tt
   seen_shape way left owed held room fits e (Step next last int) g = settled_shape G.size positive room last way left owed held fits e
-  seen_shape way left owed held room fits e (Data next at m last int) g = g
+  seen_shape way left owed held room fits e (Data next d) g = g
 
   -- one line less to follow, and no more turns
   line_side : (way : Way) (c : Cargo) (at : ℕ) (lines : List ℕ) (named : List Area) (before after : ℕ) → after ≤ before
@@ -53,7 +54,7 @@ module _ (G : Goal) (positive : 0 < G.size) where
       }
 
   -- a fetch, with one line less to follow
-  pub fetch_keeps : (way : Way) (n : ℕ) (s : Now) → G.trace.kind ≢ limit → Inv way G n s Fetch
+  pub fetch_keeps : (way : Way) (n : ℕ) (s : Now) → G.trace.kind ≢ Limit → Inv way G n s Fetch
       → let f = fetch_of s.cargo.memory s.table (bytes s.cargo.owed) in
       Inv way G (pred n) (fetched s f) (seen f s.cargo.owed s.cargo.left (length s.cargo.held))
   unfolding coming trace_of weight
@@ -91,7 +92,7 @@ module _ (G : Goal) (positive : 0 < G.size) where
   module _ (n : ℕ) (s : Now) (at k rest : ℕ) (last int : Bool) where
     -- the line in hand, of which so many bytes are moved and so many are left
     abbrev hand : Next
-    hand = Move (bytes (k + rest)) at last int
+    hand = Move (in_hand (bytes (k + rest)) at last int)
 
     -- the rest of the table
     abbrev beyond : List ℕ → Trace

@@ -17,7 +17,7 @@ use Rattle.engine.specs.Turn.{refused_as, answered_of, carry_of, moved_of, movin
 use Rattle.engine.specs.Block.{kept_as, may_give, gave_of, give_of, may_take, took_of, take_of}
 use Rattle.terms.specs.Answers.{is_done}
 use Rattle.engine.specs.Run.{World, told_of, after_turn, after_block}
-use Rattle.engine.proofs.Names.{BlockCount, ByteCount, Answer, NotYet, OutOfTurn, WrongLength, Way, Stage, Fetching, Moving, Stopped, Transfer, Dat}
+use Rattle.engine.proofs.Names.{BlockCount, ByteCount, Answer, NotYet, OutOfTurn, WrongLength, Way, Stage, Fetching, Moving, Stopped, Transfer, Dat, in_hand, Err}
 use Rattle.engine.proofs.Names.{Runs, Next, Fetch, Move, Stop, Finish, Fail, Outcome, Goes, Completes, Fails, Turned}
 use Rattle.engine.proofs.Invariant.{Now}
 use Rattle.engine.proofs.Passes.{phase_of}
@@ -64,14 +64,14 @@ runs way counted size s x stage = world_with (Runs (running way counted size s s
 pub runs_is : (way : Way) (counted : Bool) (size : ℕ) (s : Now) (x : List ℕ) (stage : Stage)
     → runs way counted size s x stage ≡ world way counted size s x (phase_of stage)
 runs_is way counted size s x Fetching = refl
-runs_is way counted size s x (Moving rest at last int) = refl
+runs_is way counted size s x (Moving d) = refl
 runs_is way counted size s x Stopped = refl
 
 -- only the settings of a transfer go on
 pub dat_counts : (t : Transfer) (left : BlockCount) (owed held : ByteCount) (stage : Stage) (left' : BlockCount) (owed' held' : ByteCount) (st : Next)
     → dat_of (with_counts t left owed held stage) left' owed' held' st ≡ dat_of t left' owed' held' st
 dat_counts t left owed held stage left' owed' held' Fetch = refl
-dat_counts t left owed held stage left' owed' held' (Move rest at last int) = refl
+dat_counts t left owed held stage left' owed' held' (Move d) = refl
 dat_counts t left owed held stage left' owed' held' Stop = refl
 dat_counts t left owed held stage left' owed' held' Finish = refl
 dat_counts t left owed held stage left' owed' held' (Fail state) = refl
@@ -104,25 +104,25 @@ module _ (t : Transfer) (table : ℕ) (x mem : List ℕ) where
 
   module _ (rest : ByteCount) (at : ℕ) (last int : Bool) (ready : ℕ) (is : ready_of t.way t.size (length x) t.held ≡ bytes ready) where
     -- 9: "a move due with the buffer full (write) or empty (read)"
-    pub waits_is : ready ≡ 0 → moving_of t table rest at last int x mem ≡ (refused_as (Runs t) table NotYet, x, mem)
+    pub waits_is : ready ≡ 0 → moving_of t table (in_hand rest at last int) x mem ≡ (refused_as (Runs t) table (Err NotYet), x, mem)
     unfolding moving_of
     waits_is none = simp (is, eq-eqb ready 0 none)
 
     -- "the smaller of the line's rest and the buffer's room (write) or content (read)"
     pub moves_is : 0 < ready → at + min rest.0 ready ≤ length mem
-        → moving_of t table rest at last int x mem
-        ≡ moved_of t table rest at last int (bytes (min rest.0 ready)) (carry_of t.way t x mem at (bytes (min rest.0 ready)))
+        → moving_of t table (in_hand rest at last int) x mem
+        ≡ moved_of t table (in_hand rest at last int) (bytes (min rest.0 ready)) (carry_of t.way t x mem at (bytes (min rest.0 ready)))
     unfolding moving_of
     moves_is some fits = simp (is, ne_eqb ready 0 (λ e. omega arith), le-leb (at + min rest.0 ready) (length mem) fits)
 
 module _ (t : Transfer) (x block : List ℕ) where
   -- "7 before 8"
   pub give_is : (may full : Bool) → may_give t (length x) ≡ may → eqb (length block) (block_of t.size (length x)).0 ≡ full
-      → give_of t x block ≡ cond may (cond full (gave_of t x block) (kept_as (Runs t) WrongLength, x)) (kept_as (Runs t) OutOfTurn, x)
+      → give_of t x block ≡ cond may (cond full (gave_of t x block) (kept_as (Runs t) (Err WrongLength), x)) (kept_as (Runs t) (Err OutOfTurn), x)
   unfolding give_of
   give_is may full e f = simp (e, f)
 
   pub take_is : (may short : Bool) → may_take t (length x) ≡ may → ltb (length block) (block_of t.size (length x)).0 ≡ short
-      → take_of t x block ≡ cond may (cond short (kept_as (Runs t) WrongLength, block) (took_of t x block)) (kept_as (Runs t) OutOfTurn, block)
+      → take_of t x block ≡ cond may (cond short (kept_as (Runs t) (Err WrongLength), block) (took_of t x block)) (kept_as (Runs t) (Err OutOfTurn), block)
   unfolding take_of
   take_is may short e f = simp (e, f)

@@ -1,9 +1,10 @@
 -- The block events: a block given by the card, a block taken by it (01 "Commands and card events"). Assumes nothing: these are definitions.
-use Rattle.std.specs.Prelude.{ℕ, List, Bool, true, false, cond, ◌&&◌, length, ltb, eqb}
+use Rattle.std.specs.Prelude.{ℕ, List, Bool, true, false, cond, ◌&&◌, length, ltb, eqb, Result, Ok, Err}
 use Rattle.std.proofs.Math.Seq.{paste}
 use Rattle.terms.specs.Counts.{bytes, fewer}
-use Rattle.terms.specs.declared.Answer.{Answer}
-use Rattle.terms.specs.declared.Answer.TheVariants.{Done, OutOfTurn, WrongLength}
+use Rattle.terms.specs.Answers.{Answer}
+use Rattle.terms.specs.declared.Refusal.{Refusal}
+use Rattle.terms.specs.declared.Refusal.TheVariants.{OutOfTurn, WrongLength}
 use Rattle.terms.specs.declared.BlockCount.{BlockCount}
 use Rattle.engine.specs.Transfer.{with_counts, ending_of, dat_of, outcome_of}
 use Rattle.engine.specs.Buffer.{block_of, held_of}
@@ -16,8 +17,27 @@ use Rattle.engine.specs.declared.transfer.Dat.{Dat}
 use Rattle.engine.specs.declared.transfer.Dat.TheVariants.{Free, Busy, Runs, Stuck, Halted}
 use Rattle.engine.specs.declared.transfer.Next.{Next}
 use Rattle.engine.specs.declared.transfer.Next.TheVariants.{Fetch, Move}
+use Rattle.engine.specs.declared.transfer.Outcome.{Outcome}
 use Rattle.engine.specs.declared.transfer.Outcome.TheVariants.{Goes}
-use Rattle.engine.specs.declared.block.Passed.{Passed}
+use Rattle.engine.specs.declared.block.Pass.{Pass}
+
+-- what a block event gives: the answer, the DAT side after it, and the end told
+pub record Passed : Type 0 where
+  pub answer : Answer
+  pub dat : Dat
+  pub outcome : Outcome
+
+abbrev pub pass_by : Answer → Passed → Result Pass Refusal
+pass_by (Ok count) p = Ok (record { count = count; dat = p.dat; outcome = p.outcome })
+pass_by (Err refusal) p = Err refusal
+
+-- the same as the program gives it: what a refusal leaves is what there was
+abbrev pub pass_of : Passed → Result Pass Refusal
+pass_of p = pass_by p.answer p
+
+-- with the buffer or the room after it
+abbrev pub passed_with : Passed × List ℕ → Result Pass Refusal × List ℕ
+passed_with g = (pass_of g.0, g.1)
 
 -- "All but 0 ... change nothing."
 abbrev pub kept_as : Dat → Answer → Passed
@@ -40,7 +60,7 @@ may_give t lent = reads_of t.way && (t.answered && (eqb (held_of t.size lent t.h
 abbrev pub gave_of : Transfer → List ℕ → List ℕ → Passed × List ℕ
 gave_of t buffer block =
     let full = block_of t.size (length buffer) in (
-      record { answer = Done full.0; dat = Runs (with_counts t (fewer t.left) t.owed full t.stage); outcome = Goes },
+      record { answer = Ok full.0; dat = Runs (with_counts t (fewer t.left) t.owed full t.stage); outcome = Goes },
       paste buffer 0 block full.0,
     )
 
@@ -48,15 +68,15 @@ gave_of t buffer block =
 unfoldable pub give_of : Transfer → List ℕ → List ℕ → Passed × List ℕ
 give_of t buffer block =
     cond (may_give t (length buffer))
-    (cond (eqb (length block) (block_of t.size (length buffer)).0) (gave_of t buffer block) (kept_as (Runs t) WrongLength, buffer))
-    (kept_as (Runs t) OutOfTurn, buffer)
+    (cond (eqb (length block) (block_of t.size (length buffer)).0) (gave_of t buffer block) (kept_as (Runs t) (Err WrongLength), buffer))
+    (kept_as (Runs t) (Err OutOfTurn), buffer)
 
 abbrev pub given_of : Dat → List ℕ → List ℕ → Passed × List ℕ
-given_of Free buffer block = (kept_as Free OutOfTurn, buffer)
-given_of (Busy answered) buffer block = (kept_as (Busy answered) OutOfTurn, buffer)
+given_of Free buffer block = (kept_as Free (Err OutOfTurn), buffer)
+given_of (Busy answered) buffer block = (kept_as (Busy answered) (Err OutOfTurn), buffer)
 given_of (Runs t) buffer block = give_of t buffer block
-given_of Stuck buffer block = (kept_as Stuck OutOfTurn, buffer)
-given_of (Halted way) buffer block = (kept_as (Halted way) OutOfTurn, buffer)
+given_of Stuck buffer block = (kept_as Stuck (Err OutOfTurn), buffer)
+given_of (Halted way) buffer block = (kept_as (Halted way) (Err OutOfTurn), buffer)
 
 -- ---- "Block taken: running write, buffer full; it fills the first bytes of the lent room."
 
@@ -67,7 +87,7 @@ may_take t lent = writes_of t.way && eqb (held_of t.size lent t.held).0 (block_o
 -- with nothing owed stops an engine
 abbrev pub emptied_of : Stage → BlockCount → Next
 emptied_of Fetching left = Fetch
-emptied_of (Moving rest at last int) left = Move rest at last int
+emptied_of (Moving hand) left = Move hand
 emptied_of Stopped left = ending_of left (bytes 0)
 
 -- the block goes to the room's first bytes, and one block less is left
@@ -75,7 +95,7 @@ abbrev pub took_of : Transfer → List ℕ → List ℕ → Passed × List ℕ
 took_of t buffer room =
     let full = block_of t.size (length buffer) in
     let next = emptied_of t.stage (fewer t.left) in (
-      record { answer = Done full.0; dat = dat_of t (fewer t.left) t.owed (bytes 0) next; outcome = outcome_of next },
+      record { answer = Ok full.0; dat = dat_of t (fewer t.left) t.owed (bytes 0) next; outcome = outcome_of next },
       paste room 0 buffer full.0,
     )
 
@@ -83,12 +103,12 @@ took_of t buffer room =
 unfoldable pub take_of : Transfer → List ℕ → List ℕ → Passed × List ℕ
 take_of t buffer room =
     cond (may_take t (length buffer))
-    (cond (ltb (length room) (block_of t.size (length buffer)).0) (kept_as (Runs t) WrongLength, room) (took_of t buffer room))
-    (kept_as (Runs t) OutOfTurn, room)
+    (cond (ltb (length room) (block_of t.size (length buffer)).0) (kept_as (Runs t) (Err WrongLength), room) (took_of t buffer room))
+    (kept_as (Runs t) (Err OutOfTurn), room)
 
 abbrev pub taken_of : Dat → List ℕ → List ℕ → Passed × List ℕ
-taken_of Free buffer room = (kept_as Free OutOfTurn, room)
-taken_of (Busy answered) buffer room = (kept_as (Busy answered) OutOfTurn, room)
+taken_of Free buffer room = (kept_as Free (Err OutOfTurn), room)
+taken_of (Busy answered) buffer room = (kept_as (Busy answered) (Err OutOfTurn), room)
 taken_of (Runs t) buffer room = take_of t buffer room
-taken_of Stuck buffer room = (kept_as Stuck OutOfTurn, room)
-taken_of (Halted way) buffer room = (kept_as (Halted way) OutOfTurn, room)
+taken_of Stuck buffer room = (kept_as Stuck (Err OutOfTurn), room)
+taken_of (Halted way) buffer room = (kept_as (Halted way) (Err OutOfTurn), room)

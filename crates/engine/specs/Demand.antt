@@ -5,7 +5,9 @@ use Rattle.terms.specs.Counts.{times}
 use Rattle.terms.specs.declared.BlockCount.{BlockCount}
 use Rattle.table.specs.Memory.{memory_limit}
 use Rattle.table.specs.Line.{line_size}
-use Rattle.table.specs.Trace.{Area, Kind, well, fault, limit, Trace, trace_of, named_bytes, fill}
+use Rattle.table.specs.Trace.{Area, Trace, trace_of, named_bytes, fill}
+use Rattle.table.specs.declared.survey.Kind.{Kind}
+use Rattle.table.specs.declared.survey.Kind.TheVariants.{Well, Error, Limit}
 use Rattle.engine.specs.Transfer.{runs_of}
 use Rattle.engine.specs.Turn.{turn_of}
 use Rattle.engine.specs.Block.{given_of, taken_of}
@@ -61,7 +63,7 @@ pub record Premise (way : Way) (size : ℕ) (blocks : BlockCount) (table : ℕ) 
   -- "the same permitted memory is lent"
   pub permitted : length mem ≤ memory_limit
   -- "whose table reaches End or a fault within N lines"
-  pub reaches : (trace_of mem lines table (times blocks size)).kind ≢ limit
+  pub reaches : (trace_of mem lines table (times blocks size)).kind ≢ Limit
   -- "on a read no named data covers a followed line"
   pub clear : Uncovered way (trace_of mem lines table (times blocks size))
 
@@ -76,14 +78,14 @@ pub data Open (size : ℕ) (w : World) : Type 0 where
 
 -- the end that a table gives, and how the DAT side then stands
 abbrev pub end_of : Kind → Outcome
-end_of well = Completes
-end_of (fault state) = Fails state
-end_of limit = Goes  -- `reaches` rules this out
+end_of Well = Completes
+end_of (Error f) = Fails f
+end_of Limit = Goes  -- `reaches` rules this out
 
 abbrev pub ends_as : Way → Kind → Dat
-ends_as way well = Free
-ends_as way (fault state) = Halted way
-ends_as way limit = Halted way  -- `reaches` rules this out
+ends_as way Well = Free
+ends_as way (Error f) = Halted way
+ends_as way Limit = Halted way  -- `reaches` rules this out
 
 -- the bytes carried when a transfer has ended, by memory then and the bytes that have passed: on a write the blocks taken, and at most one block
 -- left in the buffer, are the named bytes in order; on a read memory is what it was, with the named areas filled in order by the blocks given

@@ -1,17 +1,15 @@
 -- A run of a transfer: any list of the engine's own steps, on one lent memory. Assumes nothing: these are definitions.
 use Rattle.std.specs.Prelude.{ℕ, suc, ◌+◌, List, [], ◌∷◌, ◌++◌, Bool, false, cond, not, take}
 use Rattle.terms.specs.Answers.{value_of, is_done}
-use Rattle.terms.specs.declared.Answer.{Answer}
+use Rattle.terms.specs.Answers.{Answer}
 use Rattle.table.specs.Trace.{ring_of}
 use Rattle.engine.specs.Transfer.{respond_of}
-use Rattle.engine.specs.Turn.{turn_of}
-use Rattle.engine.specs.Block.{given_of, taken_of}
+use Rattle.engine.specs.Turn.{Turned, turn_of}
+use Rattle.engine.specs.Block.{Passed, given_of, taken_of}
 use Rattle.engine.specs.declared.transfer.Dat.{Dat}
 use Rattle.engine.specs.declared.transfer.Dat.TheVariants.{Free, Busy, Runs, Stuck, Halted}
 use Rattle.engine.specs.declared.transfer.Outcome.{Outcome}
 use Rattle.engine.specs.declared.transfer.Outcome.TheVariants.{Goes, Completes, Fails}
-use Rattle.engine.specs.declared.turn.Turned.{Turned}
-use Rattle.engine.specs.declared.block.Passed.{Passed}
 
 -- the response comes in, a turn, a block given, a block taken into a lent room
 pub data Event : Type 0 where
@@ -40,7 +38,7 @@ tally answer n = cond (is_done answer) (suc n) n
 abbrev pub told_of : Outcome → Outcome → Outcome
 told_of Goes new = new
 told_of Completes new = Completes
-told_of (Fails state) new = Fails state
+told_of (Fails f) new = Fails f
 
 -- does a running transfer await its response?
 abbrev pub awaits_of : Dat → Bool

@@ -1,9 +1,9 @@
 -- What the DAT side is doing, and where a step leaves a transfer (01 "Lines and turns"). Assumes nothing: these are definitions.
-use Rattle.std.specs.Prelude.{ℕ, zero, suc, ◌+◌, Bool, true, false}
+use Rattle.std.specs.Prelude.{ℕ, zero, suc, Bool, true, false}
 use Rattle.terms.specs.Counts.{times, bytes}
 use Rattle.terms.specs.declared.BlockCount.{BlockCount}
 use Rattle.terms.specs.declared.ByteCount.{ByteCount}
-use Rattle.table.specs.Fetch.{stop_state, mismatch}
+use Rattle.table.specs.declared.fetch.Failure.TheVariants as failure
 use Rattle.engine.specs.declared.transfer.Way.{Way}
 use Rattle.engine.specs.declared.transfer.Stage.{Stage}
 use Rattle.engine.specs.declared.transfer.Stage.TheVariants.{Fetching, Moving, Stopped}
@@ -73,7 +73,7 @@ ending_of left held = ending left.0 held.0
 unfoldable pub settled : Bool → ℕ → ℕ → ℕ → Next
 settled false owed left held = Fetch
 settled true zero left held = ending left held
-settled true (suc owed) left held = Fail (stop_state + mismatch)
+settled true (suc owed) left held = Fail failure.Owing
 
 abbrev pub settled_of : Bool → ByteCount → BlockCount → ByteCount → Next
 settled_of last owed left held = settled last owed.0 left.0 held.0
@@ -81,18 +81,18 @@ settled_of last owed left held = settled last owed.0 left.0 held.0
 -- the DAT side after it: complete, "DAT is then free"; an error "halts", and "Present State keeps its bits"
 abbrev pub dat_of : Transfer → BlockCount → ByteCount → ByteCount → Next → Dat
 dat_of t left owed held Fetch = Runs (with_counts t left owed held Fetching)
-dat_of t left owed held (Move rest at last int) = Runs (with_counts t left owed held (Moving rest at last int))
+dat_of t left owed held (Move hand) = Runs (with_counts t left owed held (Moving hand))
 dat_of t left owed held Stop = Runs (with_counts t left owed held Stopped)
 dat_of t left owed held Finish = Free
-dat_of t left owed held (Fail state) = Halted t.way
+dat_of t left owed held (Fail f) = Halted t.way
 
 -- what it tells: Transfer Complete, or an error and its 054h byte
 abbrev pub outcome_of : Next → Outcome
 outcome_of Fetch = Goes
-outcome_of (Move rest at last int) = Goes
+outcome_of (Move hand) = Goes
 outcome_of Stop = Goes
 outcome_of Finish = Completes
-outcome_of (Fail state) = Fails state
+outcome_of (Fail f) = Fails f
 
 -- a running transfer
 abbrev pub runs_of : Dat → Bool

@@ -1,49 +1,30 @@
 // The block events: a block given by the card, a block taken by it.
-ghost use Rattle.std.specs.Prelude.{◌≡◌, ◌≤◌, length};
+ghost use Rattle.std.specs.Prelude.{◌≡◌, ◌≤◌, Ok, length};
 ghost use Rattle.engine.specs.Buffer.{block_of};
-ghost use Rattle.engine.specs.Block.{kept_as, may_give, gave_of, give_of, given_of, may_take, emptied_of, took_of, take_of, taken_of};
+ghost use Rattle.engine.specs.Block.{passed_with, may_give, gave_of, give_of, given_of, may_take, emptied_of, took_of, take_of, taken_of};
 
-use crate::buffer::{block_bytes, content, put};
-use crate::transfer::{Dat, Next, Outcome, Stage, Transfer, Way, ending, outcome_of};
-use terms::{Answer, BlockCount, ByteCount};
+use crate::buffer::put;
+use crate::transfer::{Dat, Next, Outcome, Stage, Transfer, Way, ending};
+use terms::{BlockCount, ByteCount, Refusal};
 
-// What a block event gives: the answer, the DAT side after it, and the end told.
+// What a block event that is done gives: the bytes of the block, the DAT side after it, and the end told.
 #[derive(Clone, Copy)]
-pub struct Passed {
-    pub answer: Answer,
+pub struct Pass {
+    pub count: u32,
     pub dat: Dat,
     pub outcome: Outcome,
 }
 
-// An event that is refused.
-fn kept(dat: Dat, answer: Answer) -> Passed
-    ensures { result ≡ kept_as dat answer }
-{
-    Passed {
-        answer,
-        dat,
-        outcome: Outcome::Goes,
-    }
-}
-
-// Where the transfer is once its buffer is empty, with so many blocks left.
-fn emptied(stage: Stage, left: BlockCount) -> Next
-    ensures { result ≡ emptied_of stage left }
-{
-    match stage {
-        Stage::Fetching => Next::Fetch,
-        Stage::Moving {
-            rest,
-            at,
-            last,
-            int,
-        } => Next::Move {
-            rest,
-            at,
-            last,
-            int,
-        },
-        Stage::Stopped => ending(left, ByteCount(0)),
+impl Stage {
+    // Where the transfer is once its buffer is empty, with so many blocks left.
+    fn emptied(self, left: BlockCount) -> Next
+        ensures { result ≡ emptied_of self left }
+    {
+        match self {
+            Stage::Fetching => Next::Fetch,
+            Stage::Moving(hand) => Next::Move(hand),
+            Stage::Stopped => ending(left, ByteCount(0)),
+        }
     }
 }
 
@@ -53,18 +34,8 @@ impl Transfer {
     fn may_give(self, room: usize) -> bool
         ensures { result ≡ may_give self room }
     {
-        let way = self.way;
-        let held = content(self.size, room, self.held);
-        match way {
-            Way::Write => false,
-            Way::Read => {
-                if self.answered {
-                    if held.0 == 0 { 0 < self.left.0 } else { false }
-                } else {
-                    false
-                }
-            }
-        }
+        let held = self.content(room);
+        matches!(self.way, Way::Read) && self.answered && held.0 == 0 && 0 < self.left.0
     }
 
     // May the card take a block: a write, the buffer full?
@@ -72,109 +43,95 @@ impl Transfer {
     fn may_take(self, room: usize) -> bool
         ensures { result ≡ may_take self room }
     {
-        let way = self.way;
-        let held = content(self.size, room, self.held);
-        let full = block_bytes(self.size, room);
-        match way {
-            Way::Write => held.0 == full.0,
-            Way::Read => false,
-        }
+        let held = self.content(room);
+        matches!(self.way, Way::Write) && held.0 == self.block_bytes(room).0
     }
 
     // The block fills the buffer; `give` has looked at its length.
-    fn gave(self, buffer: &mut [u8], bytes: &[u8]) -> Passed
+    fn gave(self, buffer: &mut [u8], bytes: &[u8]) -> Pass
         requires { length bytes.now ≡ (block_of self.size (length buffer.old)).0 }
-        ensures { (result, buffer.new) ≡ gave_of self buffer.old bytes.now }
+        ensures { (Ok result, buffer.new) ≡ passed_with (gave_of self buffer.old bytes.now) }
     {
-        let left = self.left.fewer();
-        let owed = self.owed;
-        let stage = self.stage;
-        let full = block_bytes(self.size, buffer.len());
+        let full = self.block_bytes(buffer.len());
         put(buffer, 0, bytes);
-        let next = self.with_counts(left, owed, full, stage);
-        Passed {
-            answer: Answer::Done(full.0),
-            dat: Dat::Runs(next),
+        let left = self.left.fewer();
+        Pass {
+            count: full.0,
+            dat: Dat::Runs(Transfer {
+                left,
+                held: full,
+                ..self
+            }),
             outcome: Outcome::Goes,
         }
     }
 
     // The block leaves the buffer; `take` has looked at the room.
-    fn took(self, buffer: &[u8], room: &mut [u8]) -> Passed
+    fn took(self, buffer: &[u8], room: &mut [u8]) -> Pass
         requires { (block_of self.size (length buffer.now)).0 ≤ length room.old }
-        ensures { (result, room.new) ≡ took_of self buffer.now room.old }
+        ensures { (Ok result, room.new) ≡ passed_with (took_of self buffer.now room.old) }
     {
+        let full = self.block_bytes(buffer.len());
+        put(room, 0, &buffer[..full.0 as usize]);
         let left = self.left.fewer();
-        let owed = self.owed;
-        let stage = self.stage;
-        let full = block_bytes(self.size, buffer.len());
-        let end = full.0 as usize;
-        put(room, 0, &buffer[..end]);
-        let next = emptied(stage, left);
-        let dat = self.after(left, owed, ByteCount(0), next);
-        let told = outcome_of(next);
-        Passed {
-            answer: Answer::Done(full.0),
-            dat,
-            outcome: told,
+        let next = self.stage.emptied(left);
+        let emptied = Transfer {
+            left,
+            held: ByteCount(0),
+            ..self
+        };
+        Pass {
+            count: full.0,
+            dat: emptied.after(next),
+            outcome: next.outcome(),
         }
     }
 
     #[tactic(auto, unfolding(crate::specs::Block::give_of))]
-    fn give(self, buffer: &mut [u8], bytes: &[u8]) -> Passed
-        ensures { (result, buffer.new) ≡ give_of self buffer.old bytes.now }
+    fn give(self, buffer: &mut [u8], bytes: &[u8]) -> Result<Pass, Refusal>
+        ensures { (result, buffer.new) ≡ passed_with (give_of self buffer.old bytes.now) }
     {
-        if self.may_give(buffer.len()) {
-            if bytes.len() == block_bytes(self.size, buffer.len()).0 as usize {
-                self.gave(buffer, bytes)
-            } else {
-                kept(Dat::Runs(self), Answer::WrongLength)
-            }
-        } else {
-            kept(Dat::Runs(self), Answer::OutOfTurn)
+        if !self.may_give(buffer.len()) {
+            return Err(Refusal::OutOfTurn);
         }
+        if bytes.len() != self.block_bytes(buffer.len()).0 as usize {
+            return Err(Refusal::WrongLength);
+        }
+        Ok(self.gave(buffer, bytes))
     }
 
     #[tactic(auto, unfolding(crate::specs::Block::take_of))]
-    fn take(self, buffer: &[u8], room: &mut [u8]) -> Passed
-        ensures { (result, room.new) ≡ take_of self buffer.now room.old }
+    fn take(self, buffer: &[u8], room: &mut [u8]) -> Result<Pass, Refusal>
+        ensures { (result, room.new) ≡ passed_with (take_of self buffer.now room.old) }
     {
-        if self.may_take(buffer.len()) {
-            if room.len() < block_bytes(self.size, buffer.len()).0 as usize {
-                kept(Dat::Runs(self), Answer::WrongLength)
-            } else {
-                self.took(buffer, room)
-            }
-        } else {
-            kept(Dat::Runs(self), Answer::OutOfTurn)
+        if !self.may_take(buffer.len()) {
+            return Err(Refusal::OutOfTurn);
         }
+        if room.len() < self.block_bytes(buffer.len()).0 as usize {
+            return Err(Refusal::WrongLength);
+        }
+        Ok(self.took(buffer, room))
     }
 }
 
 impl Dat {
-    // The card gives a block.
-    pub fn given(self, buffer: &mut [u8], bytes: &[u8]) -> Passed
-        ensures { (result, buffer.new) ≡ given_of self buffer.old bytes.now }
+    // The card gives a block. Refused, the DAT side and the buffer stay as they are.
+    pub fn given(self, buffer: &mut [u8], bytes: &[u8]) -> Result<Pass, Refusal>
+        ensures { (result, buffer.new) ≡ passed_with (given_of self buffer.old bytes.now) }
     {
         match self {
-            Dat::Free => kept(Dat::Free, Answer::OutOfTurn),
-            Dat::Busy { answered } => kept(Dat::Busy { answered }, Answer::OutOfTurn),
             Dat::Runs(t) => t.give(buffer, bytes),
-            Dat::Stuck => kept(Dat::Stuck, Answer::OutOfTurn),
-            Dat::Halted(way) => kept(Dat::Halted(way), Answer::OutOfTurn),
+            Dat::Free | Dat::Busy { .. } | Dat::Stuck | Dat::Halted(_) => Err(Refusal::OutOfTurn),
         }
     }
 
-    // The card takes a block, into the first bytes of the lent room.
-    pub fn taken(self, buffer: &[u8], room: &mut [u8]) -> Passed
-        ensures { (result, room.new) ≡ taken_of self buffer.now room.old }
+    // The card takes a block, into the first bytes of the lent room. Refused, the DAT side and the room stay as they are.
+    pub fn taken(self, buffer: &[u8], room: &mut [u8]) -> Result<Pass, Refusal>
+        ensures { (result, room.new) ≡ passed_with (taken_of self buffer.now room.old) }
     {
         match self {
-            Dat::Free => kept(Dat::Free, Answer::OutOfTurn),
-            Dat::Busy { answered } => kept(Dat::Busy { answered }, Answer::OutOfTurn),
             Dat::Runs(t) => t.take(buffer, room),
-            Dat::Stuck => kept(Dat::Stuck, Answer::OutOfTurn),
-            Dat::Halted(way) => kept(Dat::Halted(way), Answer::OutOfTurn),
+            Dat::Free | Dat::Busy { .. } | Dat::Stuck | Dat::Halted(_) => Err(Refusal::OutOfTurn),
         }
     }
 }

@@ -3,35 +3,33 @@ ghost use Rattle.std.specs.Prelude.{◌≡◌, ◌+◌, ◌≤◌, length};
 ghost use Rattle.std.proofs.Math.Seq.{paste};
 ghost use Rattle.engine.specs.Buffer.{block_of, held_of, ready_of};
 
-use crate::transfer::Way;
+use crate::transfer::{Transfer, Way};
 use terms::ByteCount;
 
-// The bytes of the buffer: one block, and no more than is lent for it.
-pub(crate) fn block_bytes(size: u16, room: usize) -> ByteCount
-    ensures { result ≡ block_of size room }
-{
-    if (size as usize) < room {
-        ByteCount(size as u32)
-    } else {
-        ByteCount(room as u32)
+// Of a buffer with room for so many bytes:
+impl Transfer {
+    // how many of them are a block, and no more than there are;
+    pub(crate) fn block_bytes(self, room: usize) -> ByteCount
+        ensures { result ≡ block_of self.size room }
+    {
+        ByteCount(usize::from(self.size).min(room) as u32)
     }
-}
 
-// The bytes that the buffer holds.
-pub(crate) fn content(size: u16, room: usize, held: ByteCount) -> ByteCount
-    ensures { result ≡ held_of size room held }
-{
-    held.least(block_bytes(size, room))
-}
+    // how many bytes it holds;
+    pub(crate) fn content(self, room: usize) -> ByteCount
+        ensures { result ≡ held_of self.size room self.held }
+    {
+        self.held.least(self.block_bytes(room))
+    }
 
-// The buffer's room (write) or content (read).
-pub(crate) fn ready(way: Way, size: u16, room: usize, held: ByteCount) -> ByteCount
-    ensures { result ≡ ready_of way size room held }
-{
-    let full = content(size, room, held);
-    match way {
-        Way::Read => full,
-        Way::Write => block_bytes(size, room).less(full),
+    // and how many a move may take: its room (write) or content (read).
+    pub(crate) fn ready(self, room: usize) -> ByteCount
+        ensures { result ≡ ready_of self.way self.size room self.held }
+    {
+        match self.way {
+            Way::Read => self.content(room),
+            Way::Write => self.block_bytes(room).less(self.content(room)),
+        }
     }
 }
 

@@ -2,28 +2,22 @@
 ghost use Rattle.std.specs.Prelude.{◌≡◌};
 ghost use Rattle.engine.specs.Transfer.{with_counts, ending_of, settled_of, dat_of, outcome_of, respond_of};
 
+use table::fetch::{Failure, Hand};
 use terms::{BlockCount, ByteCount};
 
 // The way of a transfer: from the card to memory, or from memory to the card.
-#[derive(Clone, Copy)]
+#[derive(Clone, Copy, PartialEq, Eq)]
 pub enum Way {
     Read,
     Write,
 }
 
-// How the engine of a running transfer stands.
+// How the engine of a running transfer stands: no line in hand, a Tran line in hand, or stopped, with End met and a block
+// still to go.
 #[derive(Clone, Copy)]
 pub enum Stage {
-    // No line in hand.
     Fetching,
-    // A Tran line in hand: the bytes still to move, their address, End and Int.
-    Moving {
-        rest: ByteCount,
-        at: u32,
-        last: bool,
-        int: bool,
-    },
-    // End was met, and a block is still to go.
+    Moving(Hand),
     Stopped,
 }
 
@@ -52,28 +46,22 @@ pub enum Dat {
     Halted(Way),
 }
 
-// Where a step leaves a transfer: about to fetch, with a line in hand, stopped with a block to go, complete, or failed with a
-// byte for 054h.
+// Where a step leaves a transfer: about to fetch, with a line in hand, stopped with a block to go, complete, or failed.
 #[derive(Clone, Copy)]
 pub enum Next {
     Fetch,
-    Move {
-        rest: ByteCount,
-        at: u32,
-        last: bool,
-        int: bool,
-    },
+    Move(Hand),
     Stop,
     Finish,
-    Fail(u8),
+    Fail(Failure),
 }
 
-// What a step tells of the end: nothing, Transfer Complete, or an error with its byte for 054h.
+// What a step tells of the end: nothing, Transfer Complete, or an error.
 #[derive(Clone, Copy)]
 pub enum Outcome {
     Goes,
     Completes,
-    Fails(u8),
+    Fails(Failure),
 }
 
 // The engine has stopped with nothing owed: the transfer is complete, or a block is still to go.
@@ -81,108 +69,63 @@ pub enum Outcome {
 pub(crate) fn ending(left: BlockCount, held: ByteCount) -> Next
     ensures { result ≡ ending_of left held }
 {
-    if left.0 == 0 {
-        if held.0 == 0 {
-            Next::Finish
-        } else {
-            Next::Stop
-        }
+    if left.0 == 0 && held.0 == 0 {
+        Next::Finish
     } else {
         Next::Stop
     }
 }
 
-// A line is done.
-#[tactic(auto, unfolding(crate::specs::Transfer::settled))]
-pub(crate) fn settled(last: bool, owed: ByteCount, left: BlockCount, held: ByteCount) -> Next
-    ensures { result ≡ settled_of last owed left held }
-{
-    if last {
-        if owed.0 == 0 {
-            ending(left, held)
-        } else {
-            Next::Fail(table::fetch::STOP + table::fetch::MISMATCH)
+impl Next {
+    // What it tells of the end.
+    pub(crate) fn outcome(self) -> Outcome
+        ensures { result ≡ outcome_of self }
+    {
+        match self {
+            Next::Fetch | Next::Move(_) | Next::Stop => Outcome::Goes,
+            Next::Finish => Outcome::Completes,
+            Next::Fail(failure) => Outcome::Fails(failure),
         }
-    } else {
-        Next::Fetch
-    }
-}
-
-pub(crate) fn outcome_of(next: Next) -> Outcome
-    ensures { result ≡ outcome_of next }
-{
-    match next {
-        Next::Fetch => Outcome::Goes,
-        Next::Move {
-            rest: _,
-            at: _,
-            last: _,
-            int: _,
-        } => Outcome::Goes,
-        Next::Stop => Outcome::Goes,
-        Next::Finish => Outcome::Completes,
-        Next::Fail(state) => Outcome::Fails(state),
     }
 }
 
 impl Transfer {
-    // What the transfer was issued with stays; its counters and its stage move.
-    pub(crate) fn with_counts(
-        self,
-        left: BlockCount,
-        owed: ByteCount,
-        held: ByteCount,
-        stage: Stage,
-    ) -> Transfer
-        ensures { result ≡ with_counts self left owed held stage }
+    // A line is done, with the buffer holding so many bytes.
+    #[tactic(auto, using(crate::proofs::Settled::owing), unfolding(crate::specs::Transfer::settled))]
+    pub(crate) fn settled(self, last: bool, held: ByteCount) -> Next
+        ensures { result ≡ settled_of last self.owed self.left held }
     {
-        let way = self.way;
-        Transfer {
-            way,
-            answered: self.answered,
-            counted: self.counted,
-            size: self.size,
-            left,
-            owed,
-            held,
-            stage,
+        let owed = self.owed;
+        if !last {
+            Next::Fetch
+        } else if owed.0 == 0 {
+            ending(self.left, held)
+        } else {
+            Next::Fail(Failure::Owing)
         }
     }
 
-    // The DAT side after a step of the transfer.
-    pub(crate) fn after(self, left: BlockCount, owed: ByteCount, held: ByteCount, next: Next) -> Dat
-        ensures { result ≡ dat_of self left owed held next }
+    // The DAT side after a step of the transfer: what it was issued with and its counters stay, its stage moves.
+    pub(crate) fn after(self, next: Next) -> Dat
+        ensures { result ≡ dat_of self self.left self.owed self.held next }
     {
-        let way = self.way;
-        match next {
-            Next::Fetch => Dat::Runs(self.with_counts(left, owed, held, Stage::Fetching)),
-            Next::Move {
-                rest,
-                at,
-                last,
-                int,
-            } => Dat::Runs(self.with_counts(
-                left,
-                owed,
-                held,
-                Stage::Moving {
-                    rest,
-                    at,
-                    last,
-                    int,
-                },
-            )),
-            Next::Stop => Dat::Runs(self.with_counts(left, owed, held, Stage::Stopped)),
-            Next::Finish => Dat::Free,
-            Next::Fail(_) => Dat::Halted(way),
-        }
+        let stage = match next {
+            Next::Fetch => Stage::Fetching,
+            Next::Move(hand) => Stage::Moving(hand),
+            Next::Stop => Stage::Stopped,
+            Next::Finish => return Dat::Free,
+            Next::Fail(_) => return Dat::Halted(self.way),
+        };
+        Dat::Runs(Transfer { stage, ..self })
     }
 
     // Its response is in.
-    pub fn respond(mut self) -> Transfer
+    pub fn respond(self) -> Transfer
         ensures { result ≡ respond_of self }
     {
-        self.answered = true;
-        self
+        Transfer {
+            answered: true,
+            ..self
+        }
     }
 }

@@ -1,21 +1,21 @@
 // A turn: it fetches a line, or moves bytes of the line in hand.
-ghost use Rattle.std.specs.Prelude.{◌≡◌, ◌+◌, ◌≤◌, length};
+ghost use Rattle.std.specs.Prelude.{◌≡◌, ◌+◌, ◌≤◌, Ok, length};
 ghost use Rattle.table.specs.Memory.{memory_limit};
 ghost use Rattle.table.specs.Fetch.{fetch_of};
-ghost use Rattle.engine.specs.declared.transfer.Way.TheVariants.{Read, Write};
 ghost use Rattle.engine.specs.Buffer.{ready_of};
-ghost use Rattle.engine.specs.Turn.{refused_as, turned_as, seen_table, seen_int, seen_next, fetched_of, onward_of, done_int, load_of, unload_of, carry_of, moved_of, moving_of, running_of, turn_of};
+ghost use Rattle.engine.specs.Turn.{turn_given, turned_with, turned_as, seen_table, seen_int, seen_next, fetched_of, onward_of, done_int, carry_of, hand_after, moved_of, moving_of, running_of, turn_of};
 
-use crate::buffer::{block_bytes, content, put, ready};
-use crate::transfer::{Dat, Next, Outcome, Stage, Transfer, Way, outcome_of, settled};
-use table::fetch::{Fetched, MOVE};
+use crate::buffer::put;
+use crate::transfer::{Dat, Next, Outcome, Stage, Transfer, Way};
+use table::fetch::{Failure, Fetched, Hand};
 use table::memory::{in_memory, too_large};
-use terms::{Answer, BlockCount, ByteCount};
+use terms::{ByteCount, Refusal};
 
-// What a turn gives: the answer, the DAT side and 058h after it, whether DMA Interrupt is raised, and the end told.
+// What a turn that is done gives: how many bytes it moved, the DAT side and 058h after it, whether DMA Interrupt is raised,
+// and the end told.
 #[derive(Clone, Copy)]
-pub struct Turned {
-    pub answer: Answer,
+pub struct Turn {
+    pub count: u32,
     pub dat: Dat,
     pub table: u32,
     pub int: bool,
@@ -27,19 +27,8 @@ fn seen_table(seen: Fetched) -> u32
     ensures { result ≡ seen_table seen }
 {
     match seen {
-        Fetched::Fault { state: _, next } => next,
-        Fetched::Step {
+        Fetched::Fault { next, .. } | Fetched::Step { next, .. } | Fetched::Data { next, .. } =>
             next,
-            last: _,
-            int: _,
-        } => next,
-        Fetched::Data {
-            next,
-            at: _,
-            count: _,
-            last: _,
-            int: _,
-        } => next,
     }
 }
 
@@ -47,141 +36,73 @@ fn seen_table(seen: Fetched) -> u32
 fn seen_int(seen: Fetched) -> bool
     ensures { result ≡ seen_int seen }
 {
-    match seen {
-        Fetched::Fault { state: _, next: _ } => false,
-        Fetched::Step {
-            next: _,
-            last: _,
-            int,
-        } => int,
-        Fetched::Data {
-            next: _,
-            at: _,
-            count: _,
-            last: _,
-            int: _,
-        } => false,
-    }
-}
-
-// Where a fetch leaves the transfer.
-#[tactic(auto, unfolding(crate::specs::Turn::seen))]
-fn seen_next(seen: Fetched, owed: ByteCount, left: BlockCount, held: ByteCount) -> Next
-    ensures { result ≡ seen_next seen owed left held }
-{
-    match seen {
-        Fetched::Fault { state, next: _ } => Next::Fail(state),
-        Fetched::Step {
-            next: _,
-            last,
-            int: _,
-        } => settled(last, owed, left, held),
-        Fetched::Data {
-            next: _,
-            at,
-            count,
-            last,
-            int,
-        } => Next::Move {
-            rest: count,
-            at,
-            last,
-            int,
-        },
-    }
-}
-
-// Where a move leaves the transfer, with so much of the line still to move.
-#[tactic(auto, unfolding(crate::specs::Turn::further))]
-fn onward(
-    rest: ByteCount,
-    at: u32,
-    last: bool,
-    int: bool,
-    owed: ByteCount,
-    left: BlockCount,
-    held: ByteCount,
-) -> Next
-    ensures { result ≡ onward_of rest at last int owed left held }
-{
-    if rest.0 == 0 {
-        settled(last, owed, left, held)
-    } else {
-        Next::Move {
-            rest,
-            at,
-            last,
-            int,
-        }
-    }
+    matches!(seen, Fetched::Step { int: true, .. })
 }
 
 // Is a line with Int done, now that so much of it is still to move?
 #[tactic(auto, unfolding(crate::specs::Turn::done_rest))]
-fn done_int(rest: ByteCount, int: bool) -> bool
-    ensures { result ≡ done_int rest int }
+fn done_int(hand: Hand) -> bool
+    ensures { result ≡ done_int hand.rest hand.int }
 {
-    if rest.0 == 0 { int } else { false }
+    hand.rest.0 == 0 && hand.int
 }
 
 impl Transfer {
-    // A turn that is done.
-    fn turned(
-        self,
-        owed: ByteCount,
-        held: ByteCount,
-        count: ByteCount,
-        table: u32,
-        int: bool,
-        next: Next,
-    ) -> Turned
-        ensures { result ≡ turned_as self owed held count table int next }
+    // Where a fetch leaves the transfer, with the buffer holding so many bytes.
+    #[tactic(auto, unfolding(crate::specs::Turn::seen))]
+    fn seen_next(self, seen: Fetched, held: ByteCount) -> Next
+        ensures { result ≡ seen_next seen self.owed self.left held }
     {
-        let left = self.left;
-        let dat = self.after(left, owed, held, next);
-        let told = outcome_of(next);
-        Turned {
-            answer: Answer::Done(count.0),
-            dat,
-            table,
-            int,
-            outcome: told,
+        match seen {
+            Fetched::Fault { failure, .. } => Next::Fail(failure),
+            Fetched::Step { last, .. } => self.settled(last, held),
+            Fetched::Data { hand, .. } => Next::Move(hand),
         }
     }
 
-    // A write: bytes go from memory behind those that the buffer holds. Gives what it then holds. `moving` has looked that
-    // they lie in memory and fit the buffer.
-    fn load(self, at: usize, count: ByteCount, buffer: &mut [u8], mem: &[u8]) -> ByteCount
-        requires { (at + count.0 ≤ length mem.now) × (count.0 ≤ (ready_of Write self.size (length buffer.old) self.held).0) }
-        ensures { (result, buffer.new) ≡ load_of self buffer.old mem.now at count }
+    // Where a move leaves the transfer, with so much of the line still to move.
+    #[tactic(auto, unfolding(crate::specs::Turn::further))]
+    fn onward(self, hand: Hand) -> Next
+        ensures { result ≡ onward_of hand self.owed self.left self.held }
     {
-        let held = content(self.size, buffer.len(), self.held);
-        let from = held.0 as usize;
-        let end = at + count.0 as usize;
-        put(buffer, from, &mem[at..end]);
-        ByteCount(held.0 + count.0)
+        if hand.rest.0 == 0 {
+            self.settled(hand.last, self.held)
+        } else {
+            Next::Move(hand)
+        }
     }
 
-    // A read: the first bytes that the buffer holds go to memory. Gives what it then holds.
-    fn unload(self, at: usize, count: ByteCount, buffer: &[u8], mem: &mut [u8]) -> ByteCount
-        requires { (at + count.0 ≤ length mem.old) × (count.0 ≤ (ready_of Read self.size (length buffer.now) self.held).0) }
-        ensures { (result, mem.new) ≡ unload_of self buffer.now mem.old at count }
+    // A turn that is done, and left the counters so.
+    fn turned(self, count: ByteCount, table: u32, int: bool, next: Next) -> Turn
+        ensures { Ok result ≡ turn_given (turned_as self self.owed self.held count table int next) }
     {
-        let held = content(self.size, buffer.len(), self.held);
-        let from = block_bytes(self.size, buffer.len()).less(held).0 as usize;
-        let end = from + count.0 as usize;
-        put(mem, at, &buffer[from..end]);
-        held.less(count)
+        Turn {
+            count: count.0,
+            dat: self.after(next),
+            table,
+            int,
+            outcome: next.outcome(),
+        }
     }
 
+    // Bytes pass between memory and the buffer: on a write behind those that the buffer holds, on a read the first of them.
+    // Gives what it then holds. `moving` has looked that they lie in memory and fit the buffer.
     fn carry(self, at: usize, count: ByteCount, buffer: &mut [u8], mem: &mut [u8]) -> ByteCount
         requires { (at + count.0 ≤ length mem.old) × (count.0 ≤ (ready_of self.way self.size (length buffer.old) self.held).0) }
         ensures { (result, buffer.new, mem.new) ≡ carry_of self.way self buffer.old mem.old at count }
     {
-        let way = self.way;
-        match way {
-            Way::Read => self.unload(at, count, &buffer[..], mem),
-            Way::Write => self.load(at, count, buffer, &mem[..]),
+        let n = count.0 as usize;
+        let held = self.content(buffer.len());
+        match self.way {
+            Way::Write => {
+                put(buffer, held.0 as usize, &mem[at..at + n]);
+                ByteCount(held.0 + count.0)
+            }
+            Way::Read => {
+                let from = self.block_bytes(buffer.len()).less(held).0 as usize;
+                put(mem, at, &buffer[from..from + n]);
+                held.less(count)
+            }
         }
     }
 
@@ -189,23 +110,23 @@ impl Transfer {
     fn moved(
         self,
         table: u32,
-        rest: ByteCount,
-        at: u32,
-        last: bool,
-        int: bool,
+        hand: Hand,
         count: ByteCount,
         buffer: &mut [u8],
         mem: &mut [u8],
-    ) -> Turned
-        requires { (length mem.old ≤ memory_limit) × (at + count.0 ≤ length mem.old) × (count.0 ≤ (ready_of self.way self.size (length buffer.old) self.held).0) }
-        ensures { (result, buffer.new, mem.new) ≡ moved_of self table rest at last int count (carry_of self.way self buffer.old mem.old at count) }
+    ) -> Turn
+        requires { (length mem.old ≤ memory_limit) × (hand.at + count.0 ≤ length mem.old) × (count.0 ≤ (ready_of self.way self.size (length buffer.old) self.held).0) }
+        ensures { (Ok result, buffer.new, mem.new) ≡ turned_with (moved_of self table hand count (carry_of self.way self buffer.old mem.old hand.at count)) }
     {
-        let left = self.left;
-        let held = self.carry(at as usize, count, buffer, mem);
+        let held = self.carry(hand.at as usize, count, buffer, mem);
         let owed = self.owed.less(count);
-        let still = rest.less(count);
-        let next = onward(still, at + count.0, last, int, owed, left, held);
-        self.turned(owed, held, count, table, done_int(still, int), next)
+        let still = Hand {
+            rest: hand.rest.less(count),
+            at: hand.at + count.0,
+            ..hand
+        };
+        let t = Transfer { owed, held, ..self };
+        t.turned(count, table, done_int(still), t.onward(still))
     }
 
     // A turn with a line in hand. `turn` has refused too much memory.
@@ -213,111 +134,64 @@ impl Transfer {
     fn moving(
         self,
         table: u32,
-        rest: ByteCount,
-        at: u32,
-        last: bool,
-        int: bool,
+        hand: Hand,
         buffer: &mut [u8],
         mem: &mut [u8],
-    ) -> Turned
+    ) -> Result<Turn, Refusal>
         requires { length mem.old ≤ memory_limit }
-        ensures { (result, buffer.new, mem.new) ≡ moving_of self table rest at last int buffer.old mem.old }
+        ensures { (result, buffer.new, mem.new) ≡ turned_with (moving_of self table hand buffer.old mem.old) }
     {
-        let way = self.way;
-        let owed = self.owed;
-        let held = self.held;
-        let open = ready(way, self.size, buffer.len(), held);
+        let open = self.ready(buffer.len());
         if open.0 == 0 {
-            return refused(Dat::Runs(self), table, Answer::NotYet);
+            return Err(Refusal::NotYet);
         }
-        let count = rest.least(open);
-        if in_memory(mem.len(), at, count.0) {
-            self.moved(table, rest, at, last, int, count, buffer, mem)
+        let count = hand.rest.least(open);
+        if in_memory(mem.len(), hand.at, count.0) {
+            Ok(self.moved(table, hand, count, buffer, mem))
         } else {
-            self.turned(owed, held, ByteCount(0), table, false, Next::Fail(MOVE))
+            let failed = Next::Fail(Failure::Beyond);
+            Ok(self.turned(ByteCount(0), table, false, failed))
         }
     }
 
     // A turn with no line in hand.
-    fn fetching(self, table: u32, room: usize, mem: &[u8]) -> Turned
+    fn fetching(self, table: u32, room: usize, mem: &[u8]) -> Turn
         requires { length mem.now ≤ memory_limit }
-        ensures { result ≡ fetched_of self room (fetch_of mem.now table self.owed) }
+        ensures { Ok result ≡ turn_given (fetched_of self room (fetch_of mem.now table self.owed)) }
     {
-        let owed = self.owed;
-        let left = self.left;
-        let held = self.held;
-        let full = content(self.size, room, held);
-        let seen = table::fetch::fetch(mem, table, owed);
-        self.turned(
-            owed,
-            held,
-            ByteCount(0),
-            seen_table(seen),
-            seen_int(seen),
-            seen_next(seen, owed, left, full),
-        )
+        let held = self.content(room);
+        let seen = table::fetch::fetch(mem, table, self.owed);
+        let next = self.seen_next(seen, held);
+        self.turned(ByteCount(0), seen_table(seen), seen_int(seen), next)
     }
 
     // A turn of a running transfer: stopped, awaiting its response, or one that does something.
     #[tactic(auto, unfolding(crate::specs::Turn::running_of))]
-    fn turn(self, table: u32, buffer: &mut [u8], mem: &mut [u8]) -> Turned
+    fn turn(self, table: u32, buffer: &mut [u8], mem: &mut [u8]) -> Result<Turn, Refusal>
         requires { length mem.old ≤ memory_limit }
-        ensures { (result, buffer.new, mem.new) ≡ running_of self.stage self table buffer.old mem.old }
+        ensures { (result, buffer.new, mem.new) ≡ turned_with (running_of self.stage self table buffer.old mem.old) }
     {
-        let stage = self.stage;
-        match stage {
-            Stage::Stopped => refused(Dat::Runs(self), table, Answer::NoTransfer),
-            Stage::Fetching => {
-                if self.answered {
-                    self.fetching(table, buffer.len(), &mem[..])
-                } else {
-                    refused(Dat::Runs(self), table, Answer::NotYet)
-                }
-            }
-            Stage::Moving {
-                rest,
-                at,
-                last,
-                int,
-            } => {
-                if self.answered {
-                    self.moving(table, rest, at, last, int, buffer, mem)
-                } else {
-                    refused(Dat::Runs(self), table, Answer::NotYet)
-                }
-            }
+        match self.stage {
+            Stage::Stopped => Err(Refusal::NoTransfer),
+            _ if !self.answered => Err(Refusal::NotYet),
+            Stage::Fetching => Ok(self.fetching(table, buffer.len(), mem)),
+            Stage::Moving(hand) => self.moving(table, hand, buffer, mem),
         }
-    }
-}
-
-// A turn that is refused.
-fn refused(dat: Dat, table: u32, answer: Answer) -> Turned
-    ensures { result ≡ refused_as dat table answer }
-{
-    Turned {
-        answer,
-        dat,
-        table,
-        int: false,
-        outcome: Outcome::Goes,
     }
 }
 
 impl Dat {
-    // A turn, with 058h, the buffer and the lent memory.
+    // A turn, with 058h, the buffer and the lent memory. Refused, all of it stays as it is.
     #[tactic(auto, unfolding(crate::specs::Turn::staged_of))]
-    pub fn turn(self, table: u32, buffer: &mut [u8], mem: &mut [u8]) -> Turned
-        ensures { (result, buffer.new, mem.new) ≡ turn_of self table buffer.old mem.old }
+    pub fn turn(self, table: u32, buffer: &mut [u8], mem: &mut [u8]) -> Result<Turn, Refusal>
+        ensures { (result, buffer.new, mem.new) ≡ turned_with (turn_of self table buffer.old mem.old) }
     {
-        if too_large(&mem[..]) {
-            return refused(self, table, Answer::MemoryTooLarge);
+        if too_large(mem) {
+            return Err(Refusal::MemoryTooLarge);
         }
         match self {
-            Dat::Free => refused(Dat::Free, table, Answer::NoTransfer),
-            Dat::Busy { answered } => refused(Dat::Busy { answered }, table, Answer::NoTransfer),
             Dat::Runs(t) => t.turn(table, buffer, mem),
-            Dat::Stuck => refused(Dat::Stuck, table, Answer::NoTransfer),
-            Dat::Halted(way) => refused(Dat::Halted(way), table, Answer::NoTransfer),
+            Dat::Free | Dat::Busy { .. } | Dat::Stuck | Dat::Halted(_) => Err(Refusal::NoTransfer),
         }
     }
 }

@@ -9,7 +9,7 @@ use lib.Bits.{bit_and, and_mask, and_zero_r, or_zero_r}
 use lib.Dec.{eqb, lit<}
 use lib.Pow.{ones_lt}
 use borrow.Author.Tests.{eqb-true, eqb-false}
-use Rattle.terms.specs.declared.Answer.TheVariants.{Done}
+use Rattle.std.specs.Prelude.{Ok}
 use Rattle.registers.specs.Bits.{field, without, put}
 use Rattle.registers.specs.Place.{words, find, word_at, limit, ones_of, lanes_of, placed_of, edit_of, guarded}
 use Rattle.registers.specs.Word.{order_bits, in_use, inhibits}
@@ -139,5 +139,5 @@ wide_write offset (suc n) value f r ((width, (even, top)), small) =
 
 -- "Little-endian": a read that names a place gives the bytes of its byte reads, the lowest first
 pub wide_reads : (offset n : ℕ) (f : Facts) (r : Registers) → Named offset n
-    → read_of r f offset n ≡ Done (read_bytes (shown_of (word_at (offset / 4 * 4)) f r) (offset % 4) n)
+    → read_of r f offset n ≡ Ok (read_bytes (shown_of (word_at (offset / 4 * 4)) f r) (offset % 4) n)
 wide_reads offset n f r h = rw (place_here offset n h, wide_read n (shown_of (word_at (offset / 4 * 4)) f r) (offset % 4))

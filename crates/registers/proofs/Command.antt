@@ -4,11 +4,11 @@ use native.Mathlib.Omega.{arith}
 use mathlib.Core.Path.{◌≡◌, ◌∙◌}
 use mathlib.Core.Logic.{◌↔◌, ◌⊎◌, inl, inr, ⊎_elim}
 use mathlib.Core.Bool.{true, false}
+use Rattle.std.specs.Prelude.{Some}
 use Rattle.registers.specs.Place.{place_of, guarded, issues}
 use Rattle.registers.specs.declared.place.Taker.TheVariants.{Order}
 use Rattle.registers.specs.declared.place.Word.{Word}
 use Rattle.registers.specs.declared.place.Word.TheVariants.{Takes}
-use Rattle.registers.specs.declared.place.Place.TheVariants.{Here}
 use Rattle.registers.proofs.Tests.{fails}
 use Rattle.registers.proofs.Lanes.{Width}
 use Rattle.registers.proofs.Exactly.{place_lies, guarded_exactly, touches_exactly, word_touched}
@@ -19,7 +19,7 @@ abbrev pub Issuing : ℕ → ℕ → Type 0
 Issuing offset width = ((offset ≡ 0x00F) × (width ≡ 1)) ⊎ (((offset ≡ 0x00E) × (width ≡ 2)) ⊎ ((offset ≡ 0x00C) × (width ≡ 4)))
 
 -- "Byte 00Fh issues": the accesses that do are these
-pub issues_exactly : (offset width : ℕ) (w : Word) (lane n : ℕ) → place_of offset width ≡ Here w lane n
+pub issues_exactly : (offset width : ℕ) (w : Word) (lane n : ℕ) → place_of offset width ≡ Some (record { word = w; lane = lane; width = n })
     → (issues offset width ≡ true) ↔ Issuing offset width
 issues_exactly offset width w lane n e =
     let (cases, (even, _)) = (place_lies offset width w lane n e).access in
@@ -36,7 +36,8 @@ issues_exactly offset width w lane n e =
     each (inr (inr (a, b))) = rw (a, b)
 
 -- so an access that issues is to Transfer Mode and Command, 00Ch-00Fh
-pub issues_order : (offset width : ℕ) (w : Word) (lane n : ℕ) → place_of offset width ≡ Here w lane n → issues offset width ≡ true → w ≡ Takes Order
+pub issues_order : (offset width : ℕ) (w : Word) (lane n : ℕ) → place_of offset width ≡ Some (record { word = w; lane = lane; width = n })
+    → issues offset width ≡ true → w ≡ Takes Order
 issues_order offset width w lane n e h = word_touched offset width 0x00F w lane n e h ∙ order_at
 
 -- and is never one that is refused "while Command Inhibit (DAT) is 1"

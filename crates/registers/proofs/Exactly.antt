@@ -1,19 +1,18 @@
 -- Each number of this crate is given exactly when the paper's table says, in offsets and widths; a refused write changes nothing. Assumes nothing.
 use Prim.Native.Nat.{ℕ, ◌+◌, ◌*◌, ◌/◌, ◌%◌, ◌^◌, ◌≤◌, ◌<◌}
 use native.Mathlib.Omega.{arith}
-use mathlib.Core.Path.{◌≡◌, refl, sym, ◌∙◌}
+use mathlib.Core.Path.{◌≡◌, refl, sym, ◌∙◌, ap}
 use mathlib.Core.Logic.Iff
 use mathlib.Core.Logic.{◌↔◌, ◌≢◌, ◌⊎◌}
 use mathlib.Core.Bool.{Bool, true, false, cond, ◌&&◌, true≢false, false≢true}
 use lib.Dec.{eqb, leb}
 use Rattle.terms.specs.Answers.{number_of, value_of}
-use Rattle.terms.specs.declared.Answer.TheVariants.{Done, NoPlace, DatInhibited}
-use Rattle.registers.specs.Place.{legal, limit, word_at, place_of, fits_of, edit_of, aimed, target_of, touches, guarded}
+use Rattle.std.specs.Prelude.{Option, Some, None, Ok, Err}
+use Rattle.terms.specs.declared.Refusal.TheVariants.{NoPlace, DatInhibited}
+use Rattle.registers.specs.Place.{Place, legal, limit, word_at, place_of, fits_of, edit_of, aimed, target_of, touches, guarded}
 use Rattle.registers.specs.Word.{in_use, inhibits}
 use Rattle.registers.specs.Access.{take_of, read_at, read_of, Written, written_as, write_at, write_of}
 use Rattle.registers.specs.declared.place.Word.{Word}
-use Rattle.registers.specs.declared.place.Place.{Place}
-use Rattle.registers.specs.declared.place.Place.TheVariants.{Nowhere, Here}
 use Rattle.registers.specs.declared.place.Target.{Target}
 use Rattle.registers.specs.declared.word.Facts.{Facts}
 use Rattle.registers.specs.declared.block.Registers.{Registers}
@@ -67,14 +66,17 @@ misses_exactly byte offset width = lacks _ _ (le_fails offset byte) (lt_fails by
 -- ---- the place
 
 -- the place, if one is named
-abbrev here : ℕ → ℕ → Place
-here offset width = Here (word_at (offset / 4 * 4)) (offset % 4) width
+abbrev spot : ℕ → ℕ → Place
+spot offset width = record { word = word_at (offset / 4 * 4); lane = offset % 4; width = width }
 
-place_named : (offset width : ℕ) → place_of offset width ≡ cond (named offset width) (here offset width) Nowhere
+abbrev here : ℕ → ℕ → Option Place
+here offset width = Some (spot offset width)
+
+place_named : (offset width : ℕ) → place_of offset width ≡ cond (named offset width) (here offset width) None
 unfolding place_of
 place_named offset width = go (legal width) (eqb (offset % width) 0) (leb (offset + width) limit)
   where
-    go : (a b c : Bool) → cond a (cond b (cond c (here offset width) Nowhere) Nowhere) Nowhere ≡ cond (a && (b && c)) (here offset width) Nowhere
+    go : (a b c : Bool) → cond a (cond b (cond c (here offset width) None) None) None ≡ cond (a && (b && c)) (here offset width) None
     go true true c = refl
     go true false c = refl
     go false b c = refl
@@ -91,31 +93,40 @@ pub record Lies (offset width : ℕ) (w : Word) (lane n : ℕ) : Type 0 where
   pub size : width ≡ n
 
 -- read off the place
-pub place_lies : (offset width : ℕ) (w : Word) (lane n : ℕ) → place_of offset width ≡ Here w lane n → Lies offset width w lane n
+pub place_lies : (offset width : ℕ) (w : Word) (lane n : ℕ) → place_of offset width ≡ Some (record { word = w; lane = lane; width = n })
+    → Lies offset width w lane n
 place_lies offset width w lane n h = go (named offset width) refl (sym (place_named offset width) ∙ h)
   where
-    go : (t : Bool) → named offset width ≡ t → cond t (here offset width) Nowhere ≡ Here w lane n → Lies offset width w lane n
-    go true e g = record { access = (named_exactly offset width).0 e; word = cc; start = cc; size = cc }
-    go false e g = let z : ◌≡◌ {A = ℕ} 0 1 = cc in absurd (omega arith)
+    go : (t : Bool) → named offset width ≡ t → cond t (here offset width) None ≡ Some (record { word = w; lane = lane; width = n })
+        → Lies offset width w lane n
+    go true e g =
+        let same : spot offset width ≡ record { word = w; lane = lane; width = n } = cc in
+        record {
+          access = (named_exactly offset width).0 e;
+          word = ap (λ (p : Place). p.word) same;
+          start = ap (λ (p : Place). p.lane) same;
+          size = ap (λ (p : Place). p.width) same;
+        }
+    go false e g = cc
 
 -- the bytes of a place are bytes of its word
-abbrev pub Spans : Place → Type 0
-Spans Nowhere = Unit
-Spans (Here word lane width) = (0 < width) × (lane + width ≤ 4)
+abbrev pub Spans : Option Place → Type 0
+Spans None = Unit
+Spans (Some p) = (0 < p.width) × (p.lane + p.width ≤ 4)
 
 -- as no aligned access reaches into the next word
 pub place_spans : (offset width : ℕ) → Spans (place_of offset width)
 place_spans offset width = go (place_of offset width) refl
   where
-    go : (p : Place) → place_of offset width ≡ p → Spans p
-    go Nowhere e = tt
-    go (Here w lane n) e =
-        let at = place_lies offset width w lane n e in
+    go : (p : Option Place) → place_of offset width ≡ p → Spans p
+    go None e = tt
+    go (Some p) e =
+        let at = place_lies offset width p.word p.lane p.width e in
         rw (← at.start, ← at.size) (spans offset width at.access.0 at.access.1.0)
 
 -- a byte of an access lies in the word that it goes to
-pub word_touched : (offset width byte : ℕ) (w : Word) (lane n : ℕ) → place_of offset width ≡ Here w lane n → touches byte offset width ≡ true
-    → w ≡ word_at (byte / 4 * 4)
+pub word_touched : (offset width byte : ℕ) (w : Word) (lane n : ℕ) → place_of offset width ≡ Some (record { word = w; lane = lane; width = n })
+    → touches byte offset width ≡ true → w ≡ word_at (byte / 4 * 4)
 word_touched offset width byte w lane n e t =
     let at = place_lies offset width w lane n e in
     let s = spans offset width at.access.0 at.access.1.0 in
@@ -136,7 +147,7 @@ together a b = (λ _. b, λ _. a)
 pub read_1 : (r : Registers) (f : Facts) (offset width : ℕ) → (number_of (read_of r f offset width) ≡ 1) ↔ NamesNoPlace offset width
 read_1 r f offset width = rw (place_named offset width) (Iff.trans (go (named offset width)) (unnamed_exactly offset width))
   where
-    go : (t : Bool) → (number_of (read_at (cond t (here offset width) Nowhere) f r) ≡ 1) ↔ (t ≡ false)
+    go : (t : Bool) → (number_of (read_at (cond t (here offset width) None) f r) ≡ 1) ↔ (t ≡ false)
     go true = neither (λ e. omega arith) true≢false
     go false = together refl refl
 
@@ -166,14 +177,14 @@ module _ (r : Registers) (f : Facts) (offset width value : ℕ) where
   done = take_of (word_at (offset / 4 * 4)) (edit_of (offset % 4) width value) f r
 
   abbrev outcome : Bool → Bool → Written
-  outcome s t = cond s (cond t (written_as DatInhibited r) (written_as (Done 0) done)) (written_as NoPlace r)
+  outcome s t = cond s (cond t (written_as (Err DatInhibited) r) (written_as (Ok 0) done)) (written_as (Err NoPlace) r)
 
   write_outcome : write_of r f offset width value ≡ outcome found held
   unfolding target_of
   write_outcome = rw (place_named offset width) (place (named offset width))
     where
-      place : (s : Bool) → write_at (aimed value (cond s (here offset width) Nowhere)) held f r ≡ outcome (s && fits_of width value) held
-      place true = by_test (λ (x : Target). write_at x held f r ≡ outcome (fits_of width value) held) (fits_of width value) (λ e. rw e) (λ e. rw e)
+      place : (s : Bool) → write_at (aimed value (cond s (here offset width) None)) held f r ≡ outcome (s && fits_of width value) held
+      place true = by_test (λ (x : Option Target). write_at x held f r ≡ outcome (fits_of width value) held) (fits_of width value) (λ e. rw e) (λ e. rw e)
       place false = refl
 
   -- the number says which

@@ -4,6 +4,7 @@ use native.Mathlib.Omega.{arith}
 use mathlib.Core.Path.{◌≡◌, sym, ◌∙◌, ap}
 use mathlib.Core.Bool.{true, or_assoc}
 use mathlib.Core.Logic.{◌↔◌, ◌⊎◌, inl, inr}
+use lib.Bits.{bit_and, and_mask}
 use lib.Dec.{leb, ltb, leb-suc-suc}
 use Rattle.registers.specs.Place.{legal, limit, ones_of}
 use lib.Pow.{suc_ones, shl_exact, ones_lt, ones_split, high}
@@ -23,6 +24,11 @@ ones_shr w h =
 pub leb_ones : (a k : ℕ) → leb a (2 ^ k - 1) ≡ ltb a (2 ^ k)
 leb_ones a k = sym (leb-suc-suc a (2 ^ k - 1)) ∙ ap (leb (suc a)) (suc_ones k)
 
+-- what so many ones keep of a number
+pub and_ones : (n width : ℕ) → bit_and n (ones_of width) ≡ n % 2 ^ (8 * width)
+unfolding ones_of
+and_ones n width = and_mask n (8 * width)
+
 -- the written bytes of a place stay within 32 bits
 pub lanes_exact : (lane width : ℕ) → lane + width ≤ 4 → (ones_of width * 2 ^ (8 * lane)) % 4294967296 ≡ ones_of width * 2 ^ (8 * lane)
 unfolding ones_of
@@ -32,6 +38,9 @@ lanes_exact lane width h = shl_exact (8 * width) (8 * lane) 32 (ones_lt (8 * wid
 pub placed_exact : (lane width value : ℕ) → lane + width ≤ 4 → value < 2 ^ (8 * width)
     → (value * 2 ^ (8 * lane)) % 4294967296 ≡ value * 2 ^ (8 * lane)
 placed_exact lane width value h small = shl_exact (8 * width) (8 * lane) 32 small (omega arith)
+
+-- what a shift to a lane leaves as it is
+pub ruleset exact = (lanes_exact, placed_exact)
 
 -- "1, 2 or 4", as cases
 abbrev pub Width : ℕ → Type 0
@@ -55,3 +64,7 @@ pub spans : (o w : ℕ) → Width w → o % w ≡ 0 → (0 < w) × (o % 4 + w �
 spans o w (inl e) h = rw e (omega arith)
 spans o w (inr (inl e)) h = let d : o % 2 ≡ 0 = rw e at h in rw e (omega arith)
 spans o w (inr (inr e)) h = let d : o % 4 ≡ 0 = rw e at h in rw e (omega arith)
+
+-- nor does one of a legal width
+pub legal_spans : (o w : ℕ) → legal w ≡ true → o % w ≡ 0 → (0 < w) × (o % 4 + w ≤ 4)
+legal_spans o w l h = spans o w ((legal_exactly w).0 l) h

@@ -7,6 +7,7 @@ use mathlib.Core.Bool.{Bool, true, false, ◌&&◌, false≢true}
 use lib.Bits.{bit_and, bit_or}
 use lib.Dec.{eqb, ltb, lit<}
 use borrow.Author.Tests.{lt-ltb}
+use Rattle.std.specs.Prelude.{Option, Some, None}
 use Rattle.registers.specs.Bits.{bit_of, field, bit, without, put}
 use Rattle.registers.specs.Place.{target_of}
 use Rattle.registers.specs.Interrupt.{event_set, acknowledged, carried, card_bit, error_bit, shown_status}
@@ -20,7 +21,6 @@ use Rattle.registers.specs.declared.place.Word.{Word}
 use Rattle.registers.specs.declared.place.Word.TheVariants.{Takes, Tells}
 use Rattle.registers.specs.declared.place.Edit.{Edit}
 use Rattle.registers.specs.declared.place.Target.{Target}
-use Rattle.registers.specs.declared.place.Target.TheVariants as target
 use Rattle.registers.specs.declared.interrupt.Event.{Event}
 use Rattle.registers.specs.declared.interrupt.Event.TheVariants.{CommandComplete, TransferComplete}
 use Rattle.registers.specs.declared.interrupt.Interrupts.{Interrupts}
@@ -131,10 +131,10 @@ clean_take (Tells w) e f r h = h
 pub clean_write : (r : Registers) (f : Facts) (offset width value : ℕ) → Clean r → Clean (write_of r f offset width value).registers
 clean_write r f offset width value h = go (target_of offset width value) (inhibits f.dat offset width)
   where
-    go : (t : Target) (inhibited : Bool) → Clean (write_at t inhibited f r).registers
-    go target.Nowhere inhibited = h
-    go (target.At w e) true = h
-    go (target.At w e) false = clean_take w e f r h
+    go : (t : Option Target) (inhibited : Bool) → Clean (write_at t inhibited f r).registers
+    go None inhibited = h
+    go (Some t) true = h
+    go (Some t) false = clean_take t.word t.edit f r h
 
 -- "Out ... clears SD Bus Power, SD Clock Enable"
 pub clean_unplug : (r : Registers) → Clean r → Clean (unplugged r)

@@ -9,6 +9,7 @@ use mathlib.Core.Bool.{Bool, true, false, not, ◌&&◌, ◌||◌, false≢true}
 use lib.Bits.{or_comm}
 use lib.Dec.{eqb}
 use borrow.Author.Tests.{eqb-true, eq-eqb, ne_eqb}
+use Rattle.std.specs.Prelude.{Some}
 use Rattle.registers.specs.Bits.{bit_of, without}
 use Rattle.registers.specs.Place.{words, find, word_at, place_of, placed_of, edit_of, touches}
 use Rattle.registers.specs.Interrupt.{event_bit, event_set, with_status, acknowledged, shown_status}
@@ -18,7 +19,6 @@ use Rattle.registers.specs.Access.{taker_shown, take_from, take_of}
 use Rattle.registers.specs.declared.place.Taker.TheVariants.{Clock}
 use Rattle.registers.specs.declared.place.Word.{Word}
 use Rattle.registers.specs.declared.place.Word.TheVariants.{Takes, Tells}
-use Rattle.registers.specs.declared.place.Place.TheVariants.{Here}
 use Rattle.registers.specs.declared.place.Edit.{Edit}
 use Rattle.registers.specs.declared.interrupt.Event.{Event}
 use Rattle.registers.specs.declared.interrupt.Event.TheVariants.{CommandComplete, TransferComplete}
@@ -126,7 +126,8 @@ unfolding words word_at placed told shown_status
 clock_word base h = find_told base words refl (ap told h)
 
 -- what an access resets is what its edit says, where it goes to 02Ch-02Fh
-pub resets_at : (offset width value lane n : ℕ) → place_of offset width ≡ Here (Takes Clock) lane n → value < 2 ^ (8 * n)
+pub resets_at : (offset width value lane n : ℕ) → place_of offset width ≡ Some (record { word = Takes Clock; lane = lane; width = n })
+    → value < 2 ^ (8 * n)
     → resets_of offset width (edit_of lane n value) ≡ reset_bits (edit_of lane n value)
 resets_at offset width value lane n h small =
     by_test (λ (x : Resets). x ≡ reset_bits (edit_of lane n value)) (touches 0x02F offset width) (λ e. refl) (λ e.
@@ -139,7 +140,8 @@ resets_at offset width value lane n h small =
     rw (none 24 (omega arith), none 25 (omega arith), none 26 (omega arith)))
 
 -- elsewhere nothing
-pub resets_elsewhere : (offset width : ℕ) (w : Word) (lane n : ℕ) (e : Edit) → place_of offset width ≡ Here w lane n → w ≢ Takes Clock
+pub resets_elsewhere : (offset width : ℕ) (w : Word) (lane n : ℕ) (e : Edit)
+    → place_of offset width ≡ Some (record { word = w; lane = lane; width = n }) → w ≢ Takes Clock
     → resets_of offset width e ≡ no_resets
 unfolding words find word_at
 resets_elsewhere offset width w lane n e h other =

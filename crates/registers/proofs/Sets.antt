@@ -6,10 +6,11 @@ use mathlib.Core.Path.{◌≡◌, refl, sym, ◌∙◌, ap}
 use mathlib.Core.Logic.{◌≢◌}
 use mathlib.Core.Bool.{Bool, true, false, not, ◌&&◌, ◌||◌, true≢false, false≢true}
 use lib.Arith.{bin_ind}
-use lib.Bits.{bit_and, bit_or, and_step, or_step, and_le_l, and_mask}
+use lib.Bits.{bit_and, bit_or, and_step, or_step, and_comm, and_le_l, and_mask}
 use lib.Dec.{eqb, ltb, leb-suc-suc, eqb-zero-suc, eqb-suc-zero, eqb-suc-suc}
 use lib.Pow.{pow_pos, shr-shr, shl-shr}
 use borrow.Author.Tests.{eqb-false, lt-ltb, le-ltb}
+use Rattle.std.proofs.lemmas.Nat.{and-not}
 use Rattle.registers.specs.Bits.{bit_of, without, put}
 
 -- a bit by computing, where both are numerals
@@ -79,6 +80,13 @@ pub bit_without : (a b k : ℕ) → bit_of (without a b) k ≡ (bit_of a k && no
 bit_without =
     bitwise_bit without (λ x y. x - min x y) (λ p q. p && not q) without_step (λ x y hx hy. omega arith)
     (by_digits (λ x y. eqb (x - min x y) 1 ≡ (eqb x 1 && not (eqb y 1))) refl refl refl refl)
+
+-- as a `&` with the other bits of 32 gives them
+pub and_others : (a b : ℕ) → a < 2 ^ 32 → b < 2 ^ 32 → bit_and a (4294967295 - b) ≡ without a b
+unfolding without
+and_others a b ha hb =
+    let e : bit_and (4294967295 - b) a + bit_and b a ≡ a = and-not 32 b a hb ha in
+    rw (and_comm a (4294967295 - b), and_comm a b) (omega arith)
 
 -- the old bits outside the lanes, and the new ones
 pub bit_put : (old lanes bits k : ℕ) → bit_of (put old lanes bits) k ≡ (bit_of old k && not (bit_of lanes k) || bit_of bits k)

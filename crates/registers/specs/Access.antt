@@ -1,8 +1,8 @@
 -- An access: what each word shows and what a write makes of it, the answer to a read and to a write. Assumes nothing: these are definitions.
-use Rattle.std.specs.Prelude.{ℕ, Bool, cond}
-use Rattle.terms.specs.declared.Answer.{Answer}
-use Rattle.terms.specs.declared.Answer.TheVariants.{Done, NoPlace, DatInhibited}
-use Rattle.registers.specs.Place.{place_of, target_of, cut_of}
+use Rattle.std.specs.Prelude.{ℕ, Bool, cond, Option, Some, None, Ok, Err}
+use Rattle.terms.specs.Answers.{Answer}
+use Rattle.terms.specs.declared.Refusal.TheVariants.{NoPlace, DatInhibited}
+use Rattle.registers.specs.Place.{Place, place_of, target_of, cut_of}
 use Rattle.registers.specs.Interrupt.{acknowledged, enabling, signalling, forced, shown_status, line_of}
 use Rattle.registers.specs.Word.{stored, whole_bits, block_bits, low_bits, in_use, inhibits, order_after, host_after, clock_after, shown_clock, present_of, version_of}
 use Rattle.registers.specs.Block.{with_system, with_block, with_argument, with_order, with_host, with_clock, with_interrupts, with_low, with_high}
@@ -13,11 +13,8 @@ use Rattle.registers.specs.declared.place.Teller.{Teller}
 use Rattle.registers.specs.declared.place.Teller.TheVariants.{First, Second, Third, Fourth, Present, Ability, Fault, Version, Nothing}
 use Rattle.registers.specs.declared.place.Word.{Word}
 use Rattle.registers.specs.declared.place.Word.TheVariants.{Takes, Tells}
-use Rattle.registers.specs.declared.place.Place.{Place}
-use Rattle.registers.specs.declared.place.Place.TheVariants.{Nowhere, Here}
 use Rattle.registers.specs.declared.place.Edit.{Edit}
 use Rattle.registers.specs.declared.place.Target.{Target}
-use Rattle.registers.specs.declared.place.Target.TheVariants as target
 use Rattle.registers.specs.declared.word.Facts.{Facts}
 use Rattle.registers.specs.declared.block.Registers.{Registers}
 
@@ -83,9 +80,9 @@ take_of (Tells w) e f r = r
 
 -- ---- the answers
 
-abbrev pub read_at : Place → Facts → Registers → Answer
-read_at Nowhere f r = NoPlace
-read_at (Here word lane width) f r = Done (cut_of (shown_of word f r) lane width)
+abbrev pub read_at : Option Place → Facts → Registers → Answer
+read_at None f r = Err NoPlace
+read_at (Some p) f r = Ok (cut_of (shown_of p.word f r) p.lane p.width)
 
 abbrev pub read_of : Registers → Facts → ℕ → ℕ → Answer
 read_of r f offset width = read_at (place_of offset width) f r
@@ -100,9 +97,9 @@ abbrev pub written_as : Answer → Registers → Written
 written_as a r = record { answer = a; registers = r }
 
 -- "1 first", then 2
-abbrev pub write_at : Target → Bool → Facts → Registers → Written
-write_at target.Nowhere inhibited f r = written_as NoPlace r
-write_at (target.At word e) inhibited f r = cond inhibited (written_as DatInhibited r) (written_as (Done 0) (take_of word e f r))
+abbrev pub write_at : Option Target → Bool → Facts → Registers → Written
+write_at None inhibited f r = written_as (Err NoPlace) r
+write_at (Some t) inhibited f r = cond inhibited (written_as (Err DatInhibited) r) (written_as (Ok 0) (take_of t.word t.edit f r))
 
 abbrev pub write_of : Registers → Facts → ℕ → ℕ → ℕ → Written
 write_of r f offset width value = write_at (target_of offset width value) (inhibits f.dat offset width) f r

@@ -2,7 +2,7 @@
 use Rattle.std.specs.Prelude.{ℕ, Bool, true, false, List, [], ◌∷◌}
 use Rattle.terms.specs.Bench.{Row}
 use Rattle.terms.specs.Answers.{number_of, value_of}
-use Rattle.terms.specs.declared.Answer.{Answer}
+use Rattle.terms.specs.Answers.{Answer}
 use Rattle.registers.specs.Block.{power_on}
 use Rattle.registers.specs.Access.{read_of, write_of}
 use Rattle.registers.specs.declared.word.Use.TheVariants.{Free, Write}

@@ -1,14 +1,11 @@
 -- Which word, and which bytes of it, an offset and a width name; the bits that a value sets there. Assumes nothing: these are definitions.
-use Rattle.std.specs.Prelude.{ℕ, ◌+◌, ◌-◌, ◌*◌, ◌/◌, ◌%◌, ◌^◌, List, [], ◌∷◌, Bool, cond, ◌&&◌, ◌||◌, eqb, leb, ltb}
+use Rattle.std.specs.Prelude.{ℕ, ◌+◌, ◌-◌, ◌*◌, ◌/◌, ◌%◌, ◌^◌, List, [], ◌∷◌, Bool, cond, ◌&&◌, ◌||◌, eqb, leb, ltb, Option, Some, None}
 use Rattle.registers.specs.declared.place.Taker.TheVariants.{System, Block, Argument, Order, Host, Clock, Status, Enabled, Signal, Force, Low, High}
 use Rattle.registers.specs.declared.place.Teller.TheVariants.{First, Second, Third, Fourth, Present, Ability, Fault, Version, Nothing}
 use Rattle.registers.specs.declared.place.Word.{Word}
 use Rattle.registers.specs.declared.place.Word.TheVariants.{Takes, Tells}
-use Rattle.registers.specs.declared.place.Place.{Place}
-use Rattle.registers.specs.declared.place.Place.TheVariants.{Nowhere, Here}
 use Rattle.registers.specs.declared.place.Edit.{Edit}
 use Rattle.registers.specs.declared.place.Target.{Target}
-use Rattle.registers.specs.declared.place.Target.TheVariants as target
 
 -- the words that are carried, each by its offset
 unfoldable pub words : List (ℕ × Word)
@@ -51,13 +48,19 @@ legal width = eqb width 1 || eqb width 2 || eqb width 4
 abbrev pub limit : ℕ
 limit = 256
 
+-- bytes `lane` to `lane + width - 1` of a word
+pub record Place : Type 0 where
+  pub word : Word
+  pub lane : ℕ
+  pub width : ℕ
+
 -- "width not 1, 2 or 4; offset not a multiple of the width; offset + width over 256": no place
-unfoldable pub place_of : ℕ → ℕ → Place
+unfoldable pub place_of : ℕ → ℕ → Option Place
 place_of offset width =
     cond (legal width)
     (cond (eqb (offset % width) 0)
-    (cond (leb (offset + width) limit) (Here (word_at (offset / 4 * 4)) (offset % 4) width) Nowhere) Nowhere)
-    Nowhere
+    (cond (leb (offset + width) limit) (Some (record { word = word_at (offset / 4 * 4); lane = offset % 4; width = width })) None) None)
+    None
 
 -- "value too big for the width": one that is not
 abbrev pub fits_of : ℕ → ℕ → Bool
@@ -83,12 +86,12 @@ abbrev pub edit_of : ℕ → ℕ → ℕ → Edit
 edit_of lane width value = record { lanes = lanes_of lane width; bits = placed_of lane value }
 
 -- a value at a place
-abbrev pub aimed : ℕ → Place → Target
-aimed value Nowhere = target.Nowhere
-aimed value (Here word lane width) = cond (fits_of width value) (target.At word (edit_of lane width value)) target.Nowhere
+abbrev pub aimed : ℕ → Option Place → Option Target
+aimed value None = None
+aimed value (Some p) = cond (fits_of p.width value) (Some (record { word = p.word; edit = edit_of p.lane p.width value })) None
 
 -- what a write names
-unfoldable pub target_of : ℕ → ℕ → ℕ → Target
+unfoldable pub target_of : ℕ → ℕ → ℕ → Option Target
 target_of offset width value = aimed value (place_of offset width)
 
 -- an access that lies "wholly inside" low to high

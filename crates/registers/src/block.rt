@@ -3,21 +3,21 @@ ghost use Rattle.std.specs.Prelude.{◌≡◌};
 ghost use Rattle.registers.specs.Block.{power_on, block_size, block_count, mode_of, command_of, dma_select, bus_power, bus_clock, with_system, with_block, with_argument, with_order, with_host, with_clock, with_interrupts, with_reply, with_fault, with_low, with_high, unplugged};
 ghost use Rattle.registers.specs.Access.{taker_shown, teller_shown, shown_of, take_from, take_of, read_of};
 
-use crate::bits::less;
+use crate::bits::{bit, less};
 use crate::interrupt::Interrupts;
-use crate::place::{Edit, Place, Taker, Teller, Word, cut, place_at};
+use crate::place::{Access, Edit, Taker, Teller, Word};
 use crate::reset::reset_bits;
 use crate::word::{
     Facts, clock_after, host_after, is_used, order_after, present, stored_word, version,
 };
-use terms::{Answer, BlockCount};
+use terms::{Answer, BlockCount, Refusal};
 
 // "040h reads 010832B2h".
 const CAPABILITIES: u32 = 0x010832B2;
 
 // 000h to 00Fh.
 #[repr(C)]
-#[derive(Clone, Copy)]
+#[derive(Clone, Copy, Default)]
 pub struct Setup {
     pub system: u32,
     pub block: u32,
@@ -27,7 +27,7 @@ pub struct Setup {
 
 // 010h to 01Fh.
 #[repr(C)]
-#[derive(Clone, Copy)]
+#[derive(Clone, Copy, Default)]
 pub struct Reply {
     pub first: u32,
     pub second: u32,
@@ -37,7 +37,7 @@ pub struct Reply {
 
 // 028h to 02Fh.
 #[repr(C)]
-#[derive(Clone, Copy)]
+#[derive(Clone, Copy, Default)]
 pub struct Control {
     pub host: u32,
     pub clock: u32,
@@ -45,7 +45,7 @@ pub struct Control {
 
 // 054h to 05Fh.
 #[repr(C)]
-#[derive(Clone, Copy)]
+#[derive(Clone, Copy, Default)]
 pub struct Adma {
     pub fault: u8,
     pub low: u32,
@@ -68,29 +68,11 @@ impl Registers {
         ensures { result ≡ power_on }
     {
         Registers {
-            setup: Setup {
-                system: 0,
-                block: 0,
-                argument: 0,
-                order: 0,
-            },
-            reply: Reply {
-                first: 0,
-                second: 0,
-                third: 0,
-                fourth: 0,
-            },
-            control: Control { host: 0, clock: 0 },
-            interrupts: Interrupts {
-                status: 0,
-                enabled: 0,
-                signal: 0,
-            },
-            adma: Adma {
-                fault: 0,
-                low: 0,
-                high: 0,
-            },
+            setup: Setup::default(),
+            reply: Reply::default(),
+            control: Control::default(),
+            interrupts: Interrupts::default(),
+            adma: Adma::default(),
         }
     }
 
@@ -210,17 +192,19 @@ impl Registers {
     }
 
     // SD Bus Power: 029h bit 0.
+    #[tactic(auto, unfolding(crate::specs::Bits::bit_of))]
     pub fn bus_power(self) -> bool
         ensures { result ≡ bus_power self }
     {
-        self.control.host / 256 % 2 == 1
+        bit(self.control.host, 8)
     }
 
     // SD Clock Enable: 02Ch bit 2.
+    #[tactic(auto, unfolding(crate::specs::Bits::bit_of))]
     pub fn bus_clock(self) -> bool
         ensures { result ≡ bus_clock self }
     {
-        self.control.clock / 4 % 2 == 1
+        bit(self.control.clock, 2)
     }
 
     // A card that leaves takes power and clock with it.
@@ -263,7 +247,7 @@ impl Registers {
             Teller::Fourth => self.reply.fourth,
             Teller::Present => present(f),
             Teller::Ability => CAPABILITIES,
-            Teller::Fault => self.adma.fault as u32,
+            Teller::Fault => u32::from(self.adma.fault),
             Teller::Version => version(self.interrupts.line(f.level)),
             Teller::Nothing => 0,
         }
@@ -308,27 +292,19 @@ impl Registers {
     pub fn take(self, word: Word, e: Edit, f: Facts) -> Registers
         ensures { result ≡ take_of word e f self }
     {
-        let dat = f.dat;
         match word {
-            Word::Takes(w) => self.take_from(w, e, is_used(dat), f.card),
+            Word::Takes(w) => self.take_from(w, e, is_used(f.dat), f.card),
             Word::Tells(_) => self,
         }
     }
 
     // A read: the value, or no place.
-    #[tactic(auto, using(crate::proofs::Exactly::place_spans))]
-    pub fn read(self, f: Facts, offset: u32, width: u32) -> Answer
-        ensures { result ≡ read_of self f offset width }
+    pub fn read(self, f: Facts, access: Access) -> Answer
+        ensures { result ≡ read_of self f access.offset access.width }
     {
-        let place = place_at(offset, width);
-        let Place::Here {
-            word,
-            lane,
-            width: bytes,
-        } = place
-        else {
-            return Answer::NoPlace;
+        let Some(span) = access.place() else {
+            return Err(Refusal::NoPlace);
         };
-        Answer::Done(cut(self.shown(word, f), lane, bytes))
+        Ok(span.cut(self.shown(span.word(), f)))
     }
 }

@@ -1,64 +1,45 @@
 // The interrupt bits: status, enables, signal enables, and the line.
-ghost use Rattle.std.specs.Prelude.{◌≡◌, ◌<◌};
-ghost use Rattle.registers.specs.Interrupt.{event_bit, event_set, raised, acknowledged, enabling, signalling, forced, card_bit, error_bit, shown_status, line_of};
+ghost use Rattle.std.specs.Prelude.{◌≡◌};
+ghost use Rattle.registers.specs.Interrupt.{event_set, raised, acknowledged, enabling, signalling, forced, card_bit, error_bit, shown_status, line_of};
 
 use crate::bits::less;
 use crate::place::Edit;
 use crate::word::stored_word;
 
-// What a step can raise. The list is closed: bit 8, which follows the card's level, and bit 15, which follows the errors, are
-// no events, and block gap and buffer port have none yet.
+// What a step can raise, each with its bit: Normal as in 030h, Error 16 above its place in 032h. The list is closed: bit 8,
+// which follows the card's level, and bit 15, which follows the errors, are no events, and block gap and buffer port have
+// none yet.
 #[derive(Clone, Copy)]
 pub enum Event {
-    CommandComplete,
-    TransferComplete,
-    DmaInterrupt,
-    CardInsertion,
-    CardRemoval,
-    CommandTimeout,
-    CommandCrc,
-    CommandEndBit,
-    CommandIndex,
-    DataTimeout,
-    DataCrc,
-    DataEndBit,
-    AdmaError,
+    CommandComplete = 0,
+    TransferComplete = 1,
+    DmaInterrupt = 3,
+    CardInsertion = 6,
+    CardRemoval = 7,
+    CommandTimeout = 16,
+    CommandCrc = 17,
+    CommandEndBit = 18,
+    CommandIndex = 19,
+    DataTimeout = 20,
+    DataCrc = 21,
+    DataEndBit = 22,
+    AdmaError = 25,
 }
 
 // 030h to 03Bh: Normal in the low half of each word, Error in the high half. Bits 8 and 15 of the status are derived.
 #[repr(C)]
-#[derive(Clone, Copy)]
+#[derive(Clone, Copy, Default)]
 pub struct Interrupts {
     pub status: u32,
     pub enabled: u32,
     pub signal: u32,
 }
 
-// The bit of an event: Normal as in 030h, Error 16 above its place in 032h.
-fn event_index(event: Event) -> u32
-    ensures { (result ≡ event_bit event) × (result < 32) }
-{
-    match event {
-        Event::CommandComplete => 0,
-        Event::TransferComplete => 1,
-        Event::DmaInterrupt => 3,
-        Event::CardInsertion => 6,
-        Event::CardRemoval => 7,
-        Event::CommandTimeout => 16,
-        Event::CommandCrc => 17,
-        Event::CommandEndBit => 18,
-        Event::CommandIndex => 19,
-        Event::DataTimeout => 20,
-        Event::DataCrc => 21,
-        Event::DataEndBit => 22,
-        Event::AdmaError => 25,
-    }
-}
-
+// The set of an event's bit alone.
 fn event_set(event: Event) -> u32
     ensures { result ≡ event_set event }
 {
-    1 << event_index(event)
+    1 << event as u32
 }
 
 impl Interrupts {
@@ -66,7 +47,7 @@ impl Interrupts {
     fn set(mut self, bits: u32) -> Interrupts
         ensures { result ≡ raised bits self }
     {
-        self.status = self.status | (bits & self.enabled);
+        self.status |= bits & self.enabled;
         self
     }
 

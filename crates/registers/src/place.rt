@@ -1,6 +1,8 @@
 // Where an access goes: the word, and the bytes of it, that an offset and a width name.
-ghost use Rattle.std.specs.Prelude.{◌≡◌, ◌≤◌, ◌<◌, ◌+◌, ◌^◌, ◌*◌};
-ghost use Rattle.registers.specs.Place.{legal, word_at, place_of, edit_of, cut_of, fits_of, ones_of, target_of, inside, touches, guarded, issues};
+ghost use Rattle.std.specs.Prelude.{◌≡◌, ◌≤◌, ◌<◌, ◌+◌};
+ghost use Rattle.registers.specs.Place.{Place, legal, word_at, place_of, cut_of, fits_of, ones_of, aimed, target_of, inside, touches, guarded, issues};
+
+use std::marker::Model;
 
 // The access limit: offset + width reaches at most this.
 pub const LIMIT: u32 = 256;
@@ -60,11 +62,29 @@ pub enum Word {
     Tells(Teller),
 }
 
-// What an offset and a width name: bytes `lane` to `lane + width - 1` of a word, or no place.
+// An access: the offset of its first byte, and how many bytes it has.
 #[derive(Clone, Copy)]
-pub enum Place {
-    Nowhere,
-    Here { word: Word, lane: u32, width: u32 },
+pub struct Access {
+    pub offset: u32,
+    pub width: u32,
+}
+
+// A place, as an access names it: bytes `lane` to `lane + width - 1` of a word, which has 4.
+#[derive(Clone, Copy)]
+pub struct Span {
+    word: Word,
+    lane: u32,
+    width: u32,
+}
+
+impl Model for Span {
+    ghost Value = { Place };
+
+    ghost view = { λ s. record { word = s.word; lane = s.lane; width = s.width } };
+
+    ghost invariant = { λ s. (0 < s.width) × (s.lane + s.width ≤ 4) };
+
+    ghost inverse = { λ p. record { word = p.word; lane = p.lane; width = p.width } };
 }
 
 // What a write does to a word: the bits of the bytes it writes, and those among them that it sets.
@@ -74,11 +94,11 @@ pub struct Edit {
     pub bits: u32,
 }
 
-// What a write names: a word and what becomes of it, or no place.
+// What a write names: a word, and what becomes of it.
 #[derive(Clone, Copy)]
-pub enum Target {
-    Nowhere,
-    At { word: Word, edit: Edit },
+pub struct Target {
+    pub word: Word,
+    pub edit: Edit,
 }
 
 // The word at an offset that is a multiple of 4.
@@ -115,116 +135,113 @@ fn word_at(base: u32) -> Word
 fn legal_width(width: u32) -> bool
     ensures { result ≡ legal width }
 {
-    (width == 1) | (width == 2) | (width == 4)
+    matches!(width, 1 | 2 | 4)
 }
 
-// What an offset and a width name.
-#[tactic(auto, unfolding(crate::specs::Place::place_of))]
-pub fn place_at(offset: u32, width: u32) -> Place
-    ensures { result ≡ place_of offset width }
-{
-    if legal_width(width) {
-        if offset % width != 0 {
-            return Place::Nowhere;
+impl Span {
+    // The word whose bytes they are.
+    pub fn word(self) -> Word
+        ensures { result ≡ self.word }
+    {
+        self.word
+    }
+
+    // As many bytes of ones as the place has.
+    #[tactic(auto, using(crate::proofs::Lanes::ones_shr), unfolding(crate::specs::Place::ones_of))]
+    fn ones(self) -> u32
+        ensures { result ≡ ones_of self.width }
+    {
+        0xFFFFFFFF >> (32 - 8 * self.width)
+    }
+
+    // Does the value fit the place?
+    #[tactic(auto, using(crate::proofs::Lanes::leb_ones), unfolding(crate::specs::Place::ones_of))]
+    fn fits(self, value: u32) -> bool
+        ensures { result ≡ fits_of self.width value }
+    {
+        value <= self.ones()
+    }
+
+    // Its bytes of what the word shows, as a number.
+    #[tactic(auto, using(crate::proofs::Lanes::and_ones), unfolding(crate::specs::Place::cut_of))]
+    pub(crate) fn cut(self, word: u32) -> u32
+        ensures { result ≡ cut_of word self.lane self.width }
+    {
+        (word >> (8 * self.lane)) & self.ones()
+    }
+
+    // What a value does to the word, if it fits the place.
+    #[tactic(auto, using(crate::proofs::Lanes::exact), unfolding(crate::specs::Place::lanes_of, crate::specs::Place::placed_of))]
+    fn aim(self, value: u32) -> Option<Target>
+        ensures { result ≡ aimed value (Some self) }
+    {
+        if !self.fits(value) {
+            return None;
         }
-        if LIMIT - width < offset {
-            return Place::Nowhere;
-        }
-        Place::Here {
-            word: word_at(offset / 4 * 4),
-            lane: offset % 4,
-            width,
-        }
-    } else {
-        Place::Nowhere
+        let shift = 8 * self.lane;
+        Some(Target {
+            word: self.word,
+            edit: Edit {
+                lanes: self.ones() << shift,
+                bits: value << shift,
+            },
+        })
     }
 }
 
-// So many bytes of ones. A place has 1 to 4 bytes; this function and those that call it ask for that.
-fn ones(width: u32) -> u32
-    requires { (0 < width) × (width ≤ 4) }
-    ensures { result ≡ ones_of width }
-{
-    0xFFFFFFFF >> (32 - 8 * width)
-}
-
-// Does the value fit the width?
-fn fits(width: u32, value: u32) -> bool
-    requires { (0 < width) × (width ≤ 4) }
-    ensures { result ≡ fits_of width value }
-{
-    value <= ones(width)
-}
-
-// So many bytes of a word from a lane on, as a number.
-pub(crate) fn cut(word: u32, lane: u32, width: u32) -> u32
-    requires { (0 < width) × (lane + width ≤ 4) }
-    ensures { result ≡ cut_of word lane width }
-{
-    (word >> (8 * lane)) & ones(width)
-}
-
-// What a value does to the word in which it is written.
-fn edit_of(lane: u32, width: u32, value: u32) -> Edit
-    requires { (0 < width) × (lane + width ≤ 4) × (value < 2 ^ (8 * width)) }
-    ensures { result ≡ edit_of lane width value }
-{
-    let shift = 8 * lane;
-    Edit {
-        lanes: ones(width) << shift,
-        bits: value << shift,
-    }
-}
-
-// What a write names: a value too big for the width names no place either.
-#[tactic(auto, using(crate::proofs::Exactly::place_spans), unfolding(crate::specs::Place::target_of))]
-pub fn target_of(offset: u32, width: u32, value: u32) -> Target
-    ensures { result ≡ target_of offset width value }
-{
-    let place = place_at(offset, width);
-    let Place::Here {
-        word,
-        lane,
-        width: bytes,
-    } = place
-    else {
-        return Target::Nowhere;
-    };
-    if fits(bytes, value) {
-        Target::At {
-            word,
-            edit: edit_of(lane, bytes, value),
+impl Access {
+    // The place that it names, if it names one.
+    #[tactic(auto, using(crate::proofs::Lanes::legal_spans), unfolding(crate::specs::Place::place_of))]
+    pub fn place(self) -> Option<Span>
+        ensures { result ≡ place_of self.offset self.width }
+    {
+        if !legal_width(self.width)
+            || self.offset % self.width != 0
+            || LIMIT - self.width < self.offset
+        {
+            return None;
         }
-    } else {
-        Target::Nowhere
+        Some(Span {
+            word: word_at(self.offset / 4 * 4),
+            lane: self.offset % 4,
+            width: self.width,
+        })
     }
-}
 
-// Does an access lie wholly inside `low` to `high`?
-fn lies_inside(low: u32, high: u32, offset: u32, width: u32) -> bool
-    ensures { result ≡ inside low high offset width }
-{
-    (low <= offset) & (offset as u64 + width as u64 <= high as u64 + 1)
-}
+    // What a write of a value names: one too big for the width names no place either.
+    #[tactic(auto, unfolding(crate::specs::Place::target_of))]
+    pub fn target(self, value: u32) -> Option<Target>
+        ensures { result ≡ target_of self.offset self.width value }
+    {
+        self.place()?.aim(value)
+    }
 
-// Is `byte` one of the bytes of an access?
-pub fn touches_byte(byte: u32, offset: u32, width: u32) -> bool
-    ensures { result ≡ touches byte offset width }
-{
-    (offset <= byte) & ((byte as u64) < offset as u64 + width as u64)
-}
+    // Does it lie wholly inside `low` to `high`?
+    fn lies_inside(self, low: u32, high: u32) -> bool
+        ensures { result ≡ inside low high self.offset self.width }
+    {
+        low <= self.offset && u64::from(self.offset) + u64::from(self.width) <= u64::from(high) + 1
+    }
 
-// Is an access one that Command Inhibit (DAT) forbids to write?
-#[tactic(auto, unfolding(crate::specs::Place::guarded))]
-pub fn is_guarded(offset: u32, width: u32) -> bool
-    ensures { result ≡ guarded offset width }
-{
-    lies_inside(0x04, 0x07, offset, width) | lies_inside(0x0C, 0x0D, offset, width)
-}
+    // Is `byte` one of its bytes?
+    pub fn touches(self, byte: u32) -> bool
+        ensures { result ≡ touches byte self.offset self.width }
+    {
+        self.offset <= byte && byte - self.offset < self.width
+    }
 
-// Does a write issue a command?
-pub fn is_command(offset: u32, width: u32) -> bool
-    ensures { result ≡ issues offset width }
-{
-    touches_byte(0x0F, offset, width)
+    // Is it one that Command Inhibit (DAT) forbids to write?
+    #[tactic(auto, unfolding(crate::specs::Place::guarded))]
+    pub fn is_guarded(self) -> bool
+        ensures { result ≡ guarded self.offset self.width }
+    {
+        self.lies_inside(0x04, 0x07) || self.lies_inside(0x0C, 0x0D)
+    }
+
+    // Does a write of it issue a command?
+    pub fn is_command(self) -> bool
+        ensures { result ≡ issues self.offset self.width }
+    {
+        self.touches(0x0F)
+    }
 }

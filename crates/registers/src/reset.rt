@@ -2,12 +2,13 @@
 ghost use Rattle.std.specs.Prelude.{◌≡◌};
 ghost use Rattle.registers.specs.Reset.{reset_bits, resets_of, reset_command, reset_data, reset_with};
 
+use crate::bits::bit;
 use crate::block::Registers;
 use crate::interrupt::Event;
-use crate::place::{Edit, touches_byte};
+use crate::place::{Access, Edit};
 
 // Which of the three bits a write sets.
-#[derive(Clone, Copy)]
+#[derive(Clone, Copy, Default)]
 pub struct Resets {
     pub all: bool,
     pub command: bool,
@@ -19,23 +20,21 @@ pub fn reset_bits(e: Edit) -> Resets
     ensures { result ≡ reset_bits e }
 {
     Resets {
-        all: e.bits / 0x1000000 % 2 == 1,
-        command: e.bits / 0x2000000 % 2 == 1,
-        data: e.bits / 0x4000000 % 2 == 1,
+        all: bit(e.bits, 24),
+        command: bit(e.bits, 25),
+        data: bit(e.bits, 26),
     }
 }
 
-// What an access resets: none where it does not touch 02Fh.
-pub fn resets_of(offset: u32, width: u32, e: Edit) -> Resets
-    ensures { result ≡ resets_of offset width e }
-{
-    if touches_byte(0x2F, offset, width) {
-        reset_bits(e)
-    } else {
-        Resets {
-            all: false,
-            command: false,
-            data: false,
+impl Access {
+    // What a write of it resets: nothing where it does not touch 02Fh.
+    pub fn resets(self, e: Edit) -> Resets
+        ensures { result ≡ resets_of self.offset self.width e }
+    {
+        if self.touches(0x2F) {
+            reset_bits(e)
+        } else {
+            Resets::default()
         }
     }
 }
@@ -63,14 +62,11 @@ impl Registers {
         if which.all {
             return Registers::power_on();
         }
-        if which.command {
-            if which.data {
-                self.reset_command().reset_data()
-            } else {
-                self.reset_command()
-            }
+        let r = if which.command {
+            self.reset_command()
         } else {
-            if which.data { self.reset_data() } else { self }
-        }
+            self
+        };
+        if which.data { r.reset_data() } else { r }
     }
 }

@@ -1,17 +1,17 @@
 // Single words: what each stores of a write, and those that show what lies outside the block.
-ghost use Rattle.std.specs.Prelude.{◌≡◌, ◌≤◌};
-ghost use Rattle.registers.specs.Word.{stored, inhibits, mode_kept, stays, order_after, host_after, clock_after, in_use, use_bits, present_of, version_of};
+ghost use Rattle.std.specs.Prelude.{◌≡◌};
+ghost use Rattle.registers.specs.Word.{stored, inhibits, mode_kept, stays, order_after, host_after, clock_after, in_use, present_of, version_of};
 
-use crate::bits::{less, replaced, unit};
-use crate::place::{Edit, is_guarded};
+use crate::bits::{less, replaced};
+use crate::place::{Access, Edit};
 
-// How the DAT side is used, running or halted.
-#[derive(Clone, Copy)]
+// How the DAT side is used, running or halted: each as bits 1, 2, 8 and 9 of Present State show it.
+#[derive(Clone, Copy, PartialEq, Eq)]
 pub enum Use {
-    Free,
-    Busy,
-    Write,
-    Read,
+    Free = 0,
+    Busy = 0x006,
+    Write = 0x106,
+    Read = 0x206,
 }
 
 // What the block must be told: whether a command waits or is halted, the use of the DAT side, whether a card is in, and its
@@ -35,19 +35,16 @@ pub(crate) fn stored_word(mask: u32, e: Edit, old: u32) -> u32
 pub fn is_used(dat: Use) -> bool
     ensures { result ≡ in_use dat }
 {
-    match dat {
-        Use::Free => false,
-        Use::Busy => true,
-        Use::Write => true,
-        Use::Read => true,
-    }
+    dat != Use::Free
 }
 
-// Does Command Inhibit (DAT) forbid a write?
-pub fn is_inhibited(dat: Use, offset: u32, width: u32) -> bool
-    ensures { result ≡ inhibits dat offset width }
-{
-    is_used(dat) & is_guarded(offset, width)
+impl Access {
+    // Does Command Inhibit (DAT) forbid to write it?
+    pub fn is_inhibited(self, dat: Use) -> bool
+        ensures { result ≡ inhibits dat self.offset self.width }
+    {
+        is_used(dat) && self.is_guarded()
+    }
 }
 
 // While DAT is inhibited the mode half is left out of a write.
@@ -69,22 +66,10 @@ fn mode_kept(inhibited: bool, e: Edit) -> Edit
 fn kept(card: bool, needs: u32, bit: u32, bits: u32) -> u32
     ensures { result ≡ stays card needs bit bits }
 {
-    if card & (bits & needs == needs) {
+    if card && bits & needs == needs {
         bits
     } else {
         less(bits, bit)
-    }
-}
-
-// Bits 1, 2, 8 and 9 of Present State.
-fn use_bits(dat: Use) -> u32
-    ensures { (result ≡ use_bits dat) × (result ≤ 0x206) }
-{
-    match dat {
-        Use::Free => 0,
-        Use::Busy => 0x006,
-        Use::Write => 0x106,
-        Use::Read => 0x206,
     }
 }
 
@@ -92,15 +77,14 @@ fn use_bits(dat: Use) -> u32
 pub(crate) fn present(f: Facts) -> u32
     ensures { result ≡ present_of f }
 {
-    let dat = f.dat;
-    0x01FA0000 + unit(f.command) + use_bits(dat) + 0x50000 * unit(f.card)
+    0x01FA0000 + u32::from(f.command) + f.dat as u32 + 0x50000 * u32::from(f.card)
 }
 
 // 0FCh and 0FEh.
 pub(crate) fn version(line: bool) -> u32
     ensures { result ≡ version_of line }
 {
-    0x10000 + unit(line)
+    0x10000 + u32::from(line)
 }
 
 // 00Ch to 00Fh after a write.

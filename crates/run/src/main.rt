@@ -15,50 +15,35 @@ use std::{fs, io};
 // The most bytes of a good file: three counts, 32,768 bytes of memory, 512 steps of 20, 16,384 card bytes.
 const LONGEST: usize = 59404;
 
+// The most bytes of memory.
+const MEMORY: usize = 32768;
+
 // The most bytes of output: the count and 512 lines.
 const TEXT: usize = 9744;
-
-fn complain(rt: &impl Eprint, text: &str) -> io::Result<()> {
-    rt.eprint(text)
-}
 
 // Says on standard error why the system refused what is named, in the C library's words without the number.
 fn fail(rt: &impl Eprint, name: &str, error: &io::Error) -> io::Result<()> {
     let told = InlineText::<256>::of(error);
     let text = told.as_str();
-    let why = match text.split_once(" (os error ") {
-        Some((words, _)) => words,
-        None => text,
-    };
+    let why = text
+        .split_once(" (os error ")
+        .map_or(text, |(words, _)| words);
     eprint!(rt; "{name}: {why}\n")
-}
-
-// Prints the text that was put: the first `n` bytes.
-fn print(rt: &impl Print, out: &[u8], n: usize) -> io::Result<()> {
-    if n <= TEXT && n <= out.len() {
-        rt.write_all(&out[..n])?;
-    }
-    Ok(())
 }
 
 // Runs the bytes of a file. One that is too long is a bad file; a word on standard error says why.
 fn ride<R: Print + Eprint>(rt: &R, file: &[u8]) -> io::Result<()> {
-    let mut memory: [u8; 32768] = [0; 32768];
-    let mut block: [u8; 512] = [0; 512];
-    let mut space: [u8; 512] = [0; 512];
-    let mut lines: [u8; 9744] = [0; 9744];
-    let mem: &mut [u8] = &mut memory;
-    let out: &mut [u8] = &mut lines;
+    let mut memory = [0; MEMORY];
+    let mut block = [0; 512];
+    let mut space = [0; 512];
+    let mut lines = [0; TEXT];
     let told = if LONGEST < file.len() {
-        complain(
-            rt,
-            "run: the file is longer than any run file, 59404 bytes\n",
-        )
+        rt.eprint("run: the file is longer than any run file, 59404 bytes\n")
     } else {
         Ok(())
     };
-    let n = runfile::run::run(file, mem, &mut block, &mut space, out);
-    print(rt, &out[..], n)?;
+    let n = runfile::run::run(file, &mut memory, &mut block, &mut space, &mut lines);
+    rt.write_all(&lines[..n])?;
     told
 }
 
@@ -107,14 +92,14 @@ fn main(rt: HostRuntime) -> io::Result<()> {
         return ride_from(&rt, &mut rt.reader());
     }
     if has_argument(&rt, 2) {
-        return complain(&rt, "run: one file at a time: run FILE, or run < FILE\n");
+        return rt.eprint("run: one file at a time: run FILE, or run < FILE\n");
     }
     let mut space: [u8; 4096] = [0; 4096];
     let Ok(n) = rt.arg(1, &mut space) else {
-        return complain(&rt, "run: the name of the file: File name too long\n");
+        return rt.eprint("run: the name of the file: File name too long\n");
     };
     match from_utf8(&space[..n]) {
         Ok(name) => ride_named(&rt, name),
-        Err(_) => complain(&rt, "run: the name of the file: no UTF-8 text\n"),
+        Err(_) => rt.eprint("run: the name of the file: no UTF-8 text\n"),
     }
 }

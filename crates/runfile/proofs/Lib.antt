@@ -1,5 +1,8 @@
 -- What the proofs of several functions use.
+pub mod Bytes
+pub mod Goods
 pub mod Onward
 pub mod Picks
 pub mod Puts
 pub mod Within
+pub mod Made

@@ -5,6 +5,8 @@ use mathlib.Core.Path.{◌≡◌, refl, ◌∙◌}
 use mathlib.Core.Bool.{Bool, true, false, cond}
 use mathlib.Core.List.{List, [], ◌∷◌, ◌++◌, append-nil, append_assoc}
 use lib.ListN.{length, take, length-append, drop_of_length-le}
+use Rattle.std.proofs.Common.{ap}
+use Rattle.std.proofs.lemmas.List.Edits.{length-paste}
 use lib.Seq.{paste, take_all, take-length, drop-drop, take-paste, drop-paste}
 use lib.Dec.{leb, ltb}
 use borrow.Author.Tests.{leb-true, leb-false}
@@ -49,6 +51,10 @@ put_then out one two at m n s t p q =
 -- and a text ends behind its bytes
 pub put_end : (out one : List ℕ) (at m : ℕ) (s : List ℕ) → (m, one) ≡ put_of out at s → m ≡ at + length s
 put_end out one at m s p j = (p j).0
+
+-- and a room that has space for it keeps its length
+pub put_kept : (out one : List ℕ) (at m : ℕ) (s : List ℕ) → (m, one) ≡ put_of out at s → at + length s ≤ length out → length one ≡ length out
+put_kept out one at m s p h = ap length (λ j. (p j).1) ∙ length-paste out at s (length s) h (omega arith)
 
 -- a number in decimal has up to three digits
 pub decimal_short : (n : ℕ) → length (decimal n) ≤ 3

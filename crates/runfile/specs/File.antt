@@ -1,7 +1,9 @@
 -- "A run file is little-endian: three sections in this order and nothing more, each after its 32-bit count". Assumes nothing: these are definitions.
-use Rattle.std.specs.Prelude.{ℕ, zero, suc, ◌+◌, ◌*◌, List, Bool, true, cond, ◌&&◌, length, get_or, eqb, ltb, leb}
+use Rattle.std.specs.Prelude.{◌≡◌, ◌≤◌, ℕ, zero, suc, ◌+◌, ◌*◌, List, Bool, true, cond, ◌&&◌, length, get_or, eqb, ltb, leb, Option, Some, None, Result, Ok, Err}
 use Rattle.runfile.specs.declared.file.Layout.{Layout}
-use Rattle.runfile.specs.declared.file.Layout.TheVariants.{Bad, Good}
+use Rattle.runfile.specs.declared.file.Kind.{Kind}
+use Rattle.runfile.specs.declared.file.Kind.TheVariants as kind
+use Rattle.runfile.specs.declared.file.UnknownKind.{UnknownKind}
 use Rattle.runfile.specs.declared.file.Step.{Step}
 
 abbrev pub byte_at : List ℕ → ℕ → ℕ
@@ -34,16 +36,26 @@ steps_base memory = 8 + memory
 abbrev pub card_base : ℕ → ℕ → ℕ
 card_base memory steps = 12 + memory + step_size * steps
 
+-- so much of each section
+abbrev pub laid : ℕ → ℕ → ℕ → Layout
+laid memory steps card = record { memory = memory; steps = steps; card = card }
+
 -- the sections, if their counts are within the limits and they fill the file
-unfoldable pub layout_of : List ℕ → Layout
+unfoldable pub layout_of : List ℕ → Option Layout
 layout_of file =
     let memory = word_at file 0 in
     let steps = word_at file (4 + memory) in
     let card = word_at file (8 + memory + step_size * steps) in
-    cond (ltb memory_most memory) Bad
-    (cond (ltb steps_most steps) Bad
-    (cond (ltb card_most card) Bad
-    (cond (eqb (length file) (12 + memory + step_size * steps + card)) (Good memory steps card) Bad)))
+    cond (ltb memory_most memory) None
+    (cond (ltb steps_most steps) None
+    (cond (ltb card_most card) None
+    (cond (eqb (length file) (12 + memory + step_size * steps + card)) (Some (laid memory steps card)) None)))
+
+-- the sections are within their limits, and fill the file
+pub record Fills (file : List ℕ) (l : Layout) : Type 0 where
+  pub memory : l.memory ≤ memory_most
+  pub steps : l.steps ≤ steps_most
+  pub whole : card_base l.memory l.steps + l.card ≡ length file
 
 -- "A step: kind, detail, 16-bit offset, four 32-bit words."
 unfoldable pub step_at : List ℕ → ℕ → Step
@@ -57,6 +69,21 @@ step_at file at =
       third = word_at file (at + 12);
       fourth = word_at file (at + 16);
     }
+
+-- "Kinds: 0 write, 1 read, 2 in, 3 out, 4 response, 5 given, 6 taken, 7 busy over, 8 data error, 9 level, 10 turn."
+abbrev pub kind_of : ℕ → Result Kind UnknownKind
+kind_of n =
+    cond (eqb n 0) (Ok kind.Write)
+    (cond (eqb n 1) (Ok kind.Read)
+    (cond (eqb n 2) (Ok kind.CardIn)
+    (cond (eqb n 3) (Ok kind.CardOut)
+    (cond (eqb n 4) (Ok kind.Respond)
+    (cond (eqb n 5) (Ok kind.Given)
+    (cond (eqb n 6) (Ok kind.Taken)
+    (cond (eqb n 7) (Ok kind.BusyOver)
+    (cond (eqb n 8) (Ok kind.DataError)
+    (cond (eqb n 9) (Ok kind.Level)
+    (cond (eqb n 10) (Ok kind.Turn) (Err (record { 0 = n }))))))))))))
 
 -- ---- "Unused fields must be 0."
 
@@ -90,9 +117,9 @@ steps_good file base zero = true
 steps_good file base (suc n) = steps_good file base n && step_good (step_at file (base + step_size * n))
 
 -- "A wrong count, field, kind or length prints only `bad file`."
-abbrev pub laid_good : Layout → List ℕ → Layout
-laid_good Bad file = Bad
-laid_good (Good memory steps card) file = cond (steps_good file (steps_base memory) steps) (Good memory steps card) Bad
+abbrev pub laid_good : Option Layout → List ℕ → Option Layout
+laid_good None file = None
+laid_good (Some l) file = cond (steps_good file (steps_base l.memory) l.steps) (Some l) None
 
-abbrev pub good_of : List ℕ → Layout
+abbrev pub good_of : List ℕ → Option Layout
 good_of file = laid_good (layout_of file) file

@@ -1,22 +1,27 @@
 -- "Steps ... Kinds": one step over the controller, and a whole run (01 "The run program"). Assumes nothing: these are definitions.
-use Rattle.std.specs.Prelude.{ℕ, zero, suc, min, ◌+◌, ◌-◌, ◌*◌, List, [], ◌++◌, cond, take, drop, eqb}
+use Rattle.std.specs.Prelude.{◌≡◌, ℕ, zero, suc, min, ◌+◌, ◌-◌, ◌*◌, List, [], ◌++◌, cond, take, drop, length, eqb, Option, Some, None, Result, Ok, Err}
+use Rattle.terms.specs.declared.Refusal.{Refusal}
+use Rattle.controller.specs.declared.slot.Done.{Done}
 use Rattle.terms.specs.Answers.{number_of, value_of, is_done}
-use Rattle.terms.specs.declared.Answer.{Answer}
+use Rattle.terms.specs.Answers.{Answer}
 use Rattle.registers.specs.Block.{block_size}
 use Rattle.registers.specs.declared.block.Reply.{Reply}
-use Rattle.controller.specs.Slot.{power_on, line_now}
+use Rattle.controller.specs.Slot.{Stepped, power_on, line_now}
 use Rattle.controller.specs.Access.{read_of, write_of}
 use Rattle.controller.specs.Card.{in_of, out_of, respond_of, level_of}
 use Rattle.controller.specs.Data.{given_of, taken_of, busy_over, data_error, turn_of}
 use Rattle.controller.specs.declared.slot.Slot.{Slot}
-use Rattle.controller.specs.declared.slot.Stepped.{Stepped}
 use Rattle.runfile.specs.File.{memory_base, steps_base, card_base, step_size, step_at, good_of}
 use Rattle.runfile.specs.Text.{bad_text, head_text, line_text, put_of}
 use Rattle.runfile.specs.declared.file.Layout.{Layout}
-use Rattle.runfile.specs.declared.file.Layout.TheVariants.{Bad, Good}
 use Rattle.runfile.specs.declared.file.Step.{Step}
 use Rattle.runfile.specs.declared.run.RunState.{RunState}
-use Rattle.runfile.specs.declared.run.StepDone.{StepDone}
+use Rattle.runfile.specs.declared.run.Ride.{Ride}
+
+-- the answer to a step, and the run after it
+pub record StepDone : Type 0 where
+  pub answer : Answer
+  pub state : RunState
 
 -- a run between two steps: the slot, how many card bytes are used up; beside it the memory, the one-block buffer and the room
 pub record RunWorld : Type 0 where
@@ -25,17 +30,24 @@ pub record RunWorld : Type 0 where
   pub buffer : List ℕ
   pub room : List ℕ
 
--- the card's bytes: where they begin in the file, and how many they are
-pub record CardBytes : Type 0 where
-  pub file : List ℕ
-  pub base : ℕ
-  pub count : ℕ
+-- what the program holds of it
+abbrev pub world_of : Ride → RunWorld
+world_of r = record { state = r.state; memory = r.memory.now; buffer = r.buffer.now; room = r.room.now }
+
+-- it still holds the same buffer and the same room
+abbrev pub SameLent : Ride → Ride → Type 0
+SameLent r s = (s.buffer.ghost_name ≡ r.buffer.ghost_name) × (s.room.ghost_name ≡ r.room.ghost_name)
 
 abbrev pub state_as : Slot → ℕ → RunState
 state_as s used = record { slot = s; used = used }
 
 abbrev pub done_as : Answer → RunState → StepDone
 done_as a r = record { answer = a; state = r }
+
+-- a step, as the program of the controller gives it: a refusal leaves the run
+abbrev pub made_of : RunState → Result Done Refusal → StepDone
+made_of r (Ok done) = done_as (Ok done.value) (state_as done.slot r.used)
+made_of r (Err refusal) = done_as (Err refusal) r
 
 -- a step that lends nothing
 abbrev pub plain_of : RunState → Stepped → StepDone
@@ -57,17 +69,17 @@ quiet_of s slot =
     (cond (eqb s.kind 8) (data_error slot s.detail) (level_of slot (eqb s.detail 1))))))))
 
 -- "Kind 5 offers the next block-size card bytes, or what is left"
-abbrev pub offered_of : CardBytes → RunState → ℕ
-offered_of c r = min (block_size r.slot.registers) (c.count - r.used)
+abbrev pub offered_of : List ℕ → RunState → ℕ
+offered_of card r = min (block_size r.slot.registers) (length card - r.used)
 
 -- "and uses them up only on answer 0"
 abbrev pub used_after : Answer → ℕ → ℕ → ℕ
 used_after a used n = cond (is_done a) (used + n) used
 
-abbrev pub give_of : CardBytes → RunState → List ℕ → StepDone × List ℕ
-give_of c r buffer =
-    let n = offered_of c r in
-    let g = given_of r.slot buffer (take n (drop (c.base + r.used) c.file)) in
+abbrev pub give_of : List ℕ → RunState → List ℕ → StepDone × List ℕ
+give_of card r buffer =
+    let n = offered_of card r in
+    let g = given_of r.slot buffer (take n (drop r.used card)) in
     (done_as g.0.answer (state_as g.0.slot (used_after g.0.answer r.used n)), g.1)
 
 -- "6 taken (room 512)": the function `run` has a room of 512 bytes by its type
@@ -79,10 +91,10 @@ abbrev pub go_of : RunState → List ℕ → List ℕ → StepDone × List ℕ �
 go_of r buffer memory = let t = turn_of r.slot buffer memory in (plain_of r t.0, t.1, t.2)
 
 -- one step: its answer, and the ride after it
-unfoldable pub rode_of : CardBytes → Step → RunWorld → StepDone × RunWorld
-rode_of c s r =
+unfoldable pub rode_of : List ℕ → Step → RunWorld → StepDone × RunWorld
+rode_of card s r =
     cond (eqb s.kind 5)
-    (let g = give_of c r.state r.buffer in
+    (let g = give_of card r.state r.buffer in
     (g.0, record { state = g.0.state; memory = r.memory; buffer = g.1; room = r.room }))
     (cond (eqb s.kind 6)
     (let t = take_of r.state r.buffer r.room in
@@ -98,37 +110,41 @@ abbrev pub rode_text : ℕ → StepDone → List ℕ
 rode_text number q = line_text number (number_of q.answer) (value_of q.answer) (line_now q.state.slot)
 
 -- so many steps from number i on: the lines, and the ride after them
-unfoldable pub rides_of : CardBytes → ℕ → ℕ → ℕ → RunWorld → List ℕ × RunWorld
-rides_of c steps zero i r = ([], r)
-rides_of c steps (suc n) i r =
-    let q = rode_of c (step_at c.file (steps + step_size * i)) r in
-    let rest = rides_of c steps n (i + 1) q.1 in
+unfoldable pub rides_of : List ℕ → List ℕ → ℕ → ℕ → ℕ → RunWorld → List ℕ × RunWorld
+rides_of file card steps zero i r = ([], r)
+rides_of file card steps (suc n) i r =
+    let q = rode_of card (step_at file (steps + step_size * i)) r in
+    let rest = rides_of file card steps n (i + 1) q.1 in
     (rode_text i q.0 ++ rest.0, rest.1)
 
 -- the lines put into a room from a place on, and the ride after them
-abbrev pub rode_all : CardBytes → ℕ → ℕ → ℕ → RunWorld → List ℕ → ℕ → (ℕ × List ℕ) × RunWorld
-rode_all c steps n i r out at = let q = rides_of c steps n i r in (put_of out at q.0, q.1)
+abbrev pub rode_all : List ℕ → List ℕ → ℕ → ℕ → ℕ → RunWorld → List ℕ → ℕ → (ℕ × List ℕ) × RunWorld
+rode_all file card steps n i r out at = let q = rides_of file card steps n i r in (put_of out at q.0, q.1)
 
 -- a run begins at power-on with no card in, and the file's memory is lent whole
 abbrev pub start_of : List ℕ → ℕ → List ℕ → List ℕ → RunWorld
 start_of file memory buffer room =
     record { state = state_as power_on 0; memory = take memory (drop memory_base file); buffer = buffer; room = room }
 
+-- the card's bytes: so many, from where they begin in the file
+abbrev pub card_of : List ℕ → Layout → List ℕ
+card_of file l = take l.card (drop (card_base l.memory l.steps) file)
+
 -- all the steps of a good file
-abbrev pub all_of : List ℕ → ℕ → ℕ → ℕ → List ℕ → List ℕ → List ℕ × RunWorld
-all_of file memory steps card buffer room =
-    rides_of (record { file = file; base = card_base memory steps; count = card }) (steps_base memory) steps 0 (start_of file memory buffer room)
+abbrev pub all_of : List ℕ → Layout → List ℕ → List ℕ → List ℕ × RunWorld
+all_of file l buffer room =
+    rides_of file (card_of file l) (steps_base l.memory) l.steps 0 (start_of file l.memory buffer room)
 
 -- the text of a good file put into a room, and memory, buffer and room after the run
-abbrev pub good_run : List ℕ → ℕ → ℕ → ℕ → List ℕ → List ℕ → List ℕ → (ℕ × List ℕ) × (List ℕ × List ℕ × List ℕ)
-good_run file memory steps card buffer room out =
-    let q = all_of file memory steps card buffer room in
-    (put_of out 0 (head_text steps ++ q.0), (q.1.memory, q.1.buffer, q.1.room))
+abbrev pub good_run : List ℕ → Layout → List ℕ → List ℕ → List ℕ → (ℕ × List ℕ) × (List ℕ × List ℕ × List ℕ)
+good_run file l buffer room out =
+    let q = all_of file l buffer room in
+    (put_of out 0 (head_text l.steps ++ q.0), (q.1.memory, q.1.buffer, q.1.room))
 
 -- the whole output of a file
-abbrev pub run_text : List ℕ → Layout → List ℕ → List ℕ → List ℕ
-run_text file Bad buffer room = bad_text
-run_text file (Good memory steps card) buffer room = head_text steps ++ (all_of file memory steps card buffer room).0
+abbrev pub run_text : List ℕ → Option Layout → List ℕ → List ℕ → List ℕ
+run_text file None buffer room = bad_text
+run_text file (Some l) buffer room = head_text l.steps ++ (all_of file l buffer room).0
 
 abbrev pub output_of : List ℕ → List ℕ → List ℕ → List ℕ
 output_of file buffer room = run_text file (good_of file) buffer room

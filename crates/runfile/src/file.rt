@@ -1,6 +1,7 @@
 // The file: three sections, each after its count, and steps of 20 bytes. A bad one is refused as a whole.
-ghost use Rattle.std.specs.Prelude.{◌≡◌, ◌<◌, ◌≤◌};
-ghost use Rattle.runfile.specs.File.{byte_at, word_at, layout_of, step_at, no_rest, no_words, step_good, steps_good, good_of};
+ghost use Rattle.std.specs.Prelude.{◌≡◌, ℕ, ◌+◌, ◌*◌, ◌<◌, ◌≤◌, None, Some, cond, ltb, slice_index, IfSome};
+ghost use Rattle.runfile.specs.File.{byte_at, word_at, layout_of, Fills, step_at, no_rest, no_words, kind_of, step_good, good_of};
+ghost use Rattle.std.specs.List.{list_all, range_with_len};
 
 // The most bytes of memory, steps, and card bytes.
 pub const MEMORY: u32 = 32768;
@@ -12,15 +13,55 @@ pub const CARD: u32 = 16384;
 // The bytes of a step.
 pub const STEP: usize = 20;
 
-// How much each section has, or a file whose sections do not come out even.
-#[derive(Clone, Copy)]
-pub enum Layout {
-    Bad,
-    Good {
-        memory: usize,
-        steps: usize,
-        card: usize,
-    },
+// How much each section has.
+#[derive(Clone, Copy, Debug, PartialEq, Eq)]
+pub struct Layout {
+    pub memory: usize,
+    pub steps: usize,
+    pub card: usize,
+}
+
+// What a step does, by its number in the file.
+#[derive(Clone, Copy, Debug, PartialEq, Eq)]
+pub enum Kind {
+    Write = 0,
+    Read = 1,
+    CardIn = 2,
+    CardOut = 3,
+    Respond = 4,
+    Given = 5,
+    Taken = 6,
+    BusyOver = 7,
+    DataError = 8,
+    Level = 9,
+    Turn = 10,
+}
+
+#[derive(Clone, Copy, Debug, PartialEq, Eq)]
+pub struct UnknownKind(pub u8);
+
+impl TryFrom<u8> for Kind {
+    type Error = UnknownKind;
+
+    ghost try_from_gives = { λ n kind. kind ≡ kind_of n };
+
+    // The kind by its number.
+    fn try_from(n: u8) -> Result<Kind, UnknownKind> {
+        match n {
+            0 => Ok(Kind::Write),
+            1 => Ok(Kind::Read),
+            2 => Ok(Kind::CardIn),
+            3 => Ok(Kind::CardOut),
+            4 => Ok(Kind::Respond),
+            5 => Ok(Kind::Given),
+            6 => Ok(Kind::Taken),
+            7 => Ok(Kind::BusyOver),
+            8 => Ok(Kind::DataError),
+            9 => Ok(Kind::Level),
+            10 => Ok(Kind::Turn),
+            _ => Err(UnknownKind(n)),
+        }
+    }
 }
 
 #[derive(Clone, Copy)]
@@ -34,61 +75,49 @@ pub struct Step {
     pub fourth: u32,
 }
 
-// A byte of the file; 0 past its end.
-fn byte_at(file: &[u8], at: usize) -> u8
-    ensures { result ≡ byte_at file.now at }
+// The bytes of the file from a place on; 0 past its end.
+fn bytes_at<const N: usize>(file: &[u8], at: usize) -> [u8; N]
+    ensures { (i : ℕ) → i < N → slice_index result i ≡ byte_at file.now (at + i) }
 {
-    if at < file.len() { file[at] } else { 0 }
+    let mut bytes = [0; N];
+    let rest = &file[at.min(file.len())..];
+    let n = rest.len().min(N);
+    bytes[..n].copy_from_slice(&rest[..n]);
+    bytes
 }
 
-fn wide(b: u8) -> u32
-    ensures { result ≡ b }
-{
-    b as u32
-}
-
-// The 32 bits at a place, little-endian; a place so far behind the end that its sum would not fit is past it.
+// The 32 bits at a place, little-endian.
 #[tactic(auto, unfolding(crate::specs::File::word_at))]
 pub(crate) fn word_at(file: &[u8], at: usize) -> u32
     ensures { result ≡ word_at file.now at }
 {
-    if at < file.len() {
-        let a = wide(byte_at(file, at));
-        let b = wide(byte_at(file, at + 1));
-        let c = wide(byte_at(file, at + 2));
-        let d = wide(byte_at(file, at + 3));
-        a + 256 * b + 65536 * c + 16777216 * d
-    } else {
-        0
-    }
+    u32::from_le_bytes(bytes_at(file, at))
+}
+
+// The count of a section, at a place, if it is within its limit.
+fn count_at(file: &[u8], at: usize, most: u32) -> Option<usize>
+    ensures value { result ≡ cond (ltb most (word_at file.now at)) None (Some (word_at file.now at)) }
+    ensures limit { IfSome result (λ n. n ≤ most) }
+{
+    let count = word_at(file, at);
+    (count <= most).then_some(count as usize)
 }
 
 // The sections, if they come out even: counts within their limits, and nothing before, between or after.
 #[tactic(auto, unfolding(crate::specs::File::layout_of))]
-pub fn layout_of(file: &[u8]) -> Layout
-    ensures { result ≡ layout_of file.now }
+pub fn layout_of(file: &[u8]) -> Option<Layout>
+    ensures value { result ≡ layout_of file.now }
+    ensures fills { IfSome result (λ l. Fills file.now l) }
 {
-    let memory = word_at(file, 0);
-    if MEMORY < memory {
-        return Layout::Bad;
-    }
-    let steps = word_at(file, 4 + memory as usize);
-    if STEPS < steps {
-        return Layout::Bad;
-    }
-    let card = word_at(file, 8 + memory as usize + STEP * steps as usize);
-    if CARD < card {
-        return Layout::Bad;
-    }
-    if file.len() == 12 + memory as usize + STEP * steps as usize + card as usize {
-        Layout::Good {
-            memory: memory as usize,
-            steps: steps as usize,
-            card: card as usize,
-        }
-    } else {
-        Layout::Bad
-    }
+    let memory = count_at(file, 0, MEMORY)?;
+    let steps = count_at(file, 4 + memory, STEPS)?;
+    let card = count_at(file, 8 + memory + STEP * steps, CARD)?;
+    let whole = 12 + memory + STEP * steps + card;
+    (file.len() == whole).then_some(Layout {
+        memory,
+        steps,
+        card,
+    })
 }
 
 // The step at a place. `steps_good` and `run` ask only for places within the file.
@@ -97,12 +126,11 @@ pub(crate) fn step_at(file: &[u8], at: usize) -> Step
     requires { at < 65536 }
     ensures { result ≡ step_at file.now at }
 {
-    let low = byte_at(file, at + 2) as u16;
-    let high = byte_at(file, at + 3) as u16;
+    let [kind, detail] = bytes_at::<2>(file, at);
     Step {
-        kind: byte_at(file, at),
-        detail: byte_at(file, at + 1),
-        offset: low + 256 * high,
+        kind,
+        detail,
+        offset: u16::from_le_bytes(bytes_at(file, at + 2)),
         first: word_at(file, at + 4),
         second: word_at(file, at + 8),
         third: word_at(file, at + 12),
@@ -115,78 +143,49 @@ impl Step {
     fn no_rest(self) -> bool
         ensures { result ≡ no_rest self }
     {
-        (self.second == 0) & ((self.third == 0) & (self.fourth == 0))
+        self.second == 0 && self.third == 0 && self.fourth == 0
     }
 
     // All four words are 0.
     fn no_words(self) -> bool
         ensures { result ≡ no_words self }
     {
-        (self.first == 0) & self.no_rest()
+        self.first == 0 && self.no_rest()
     }
 
     // Is the kind known, and is every field that it does not use 0?
     fn is_good(self) -> bool
         ensures { result ≡ step_good self }
     {
-        let kind = self.kind;
-        let offset = self.offset == 0;
-        if kind == 0 {
-            return self.no_rest();
+        let Ok(kind) = Kind::try_from(self.kind) else {
+            return false;
+        };
+        let no_offset = self.offset == 0;
+        match kind {
+            Kind::Write => self.no_rest(),
+            Kind::Read => self.no_words(),
+            Kind::Respond => no_offset,
+            Kind::DataError => no_offset && self.no_words(),
+            Kind::Level => self.detail <= 1 && no_offset && self.no_words(),
+            _ => self.detail == 0 && no_offset && self.no_words(),
         }
-        if kind == 1 {
-            return self.no_words();
-        }
-        if kind == 4 {
-            return offset;
-        }
-        if kind == 8 {
-            return offset & self.no_words();
-        }
-        if kind == 9 {
-            return (self.detail <= 1) & (offset & self.no_words());
-        }
-        (kind <= 10) & ((self.detail == 0) & (offset & self.no_words()))
     }
 }
 
 // Are the first `count` steps from a place on good? The callers keep both small: no file is longer.
 fn steps_good(file: &[u8], base: usize, count: usize) -> bool
     requires { (base < 40000) × (count ≤ 512) }
-    ensures { result ≡ steps_good file.now base count }
+    ensures { result ≡ list_all (λ i. step_good (step_at file.now (base + STEP * i))) (range_with_len 0 count) }
 {
-    if count == 0 {
-        return true;
-    }
-    let last = count - 1;
-    if steps_good(file, base, last) {
-        step_at(file, base + STEP * last).is_good()
-    } else {
-        false
-    }
+    (0..count).all(|i| step_at(file, base + STEP * i).is_good())
 }
 
-// The sections of a good file, or a bad one.
-pub fn judge(file: &[u8]) -> Layout
-    ensures { result ≡ good_of file.now }
+// The sections of a good file.
+#[tactic(auto, using(crate::proofs::Goods::good_steps))]
+pub fn judge(file: &[u8]) -> Option<Layout>
+    ensures value { result ≡ good_of file.now }
+    ensures fills { IfSome result (λ l. Fills file.now l) }
 {
-    let layout = layout_of(file);
-    match layout {
-        Layout::Bad => Layout::Bad,
-        Layout::Good {
-            memory,
-            steps,
-            card,
-        } => {
-            if steps_good(file, 8 + memory, steps) {
-                Layout::Good {
-                    memory,
-                    steps,
-                    card,
-                }
-            } else {
-                Layout::Bad
-            }
-        }
-    }
+    let layout = layout_of(file)?;
+    steps_good(file, 8 + layout.memory, layout.steps).then_some(layout)
 }

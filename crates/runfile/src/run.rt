@@ -1,13 +1,15 @@
 // A run: the steps of a good file over the controller, a line of text for each.
-ghost use Rattle.std.specs.Prelude.{◌≡◌, min, ◌+◌, ◌*◌, ◌-◌, ◌≤◌, length};
+ghost use Rattle.std.specs.Prelude.{◌≡◌, ◌+◌, ◌*◌, ◌≤◌, length};
+ghost use Rattle.controller.specs.Slot.{done_of, power_on};
+ghost use Rattle.runfile.specs.File.{Fills};
 ghost use Rattle.runfile.specs.Text.{put_of};
-ghost use Rattle.runfile.specs.Run.{quiet_of, plain_of, give_of, take_of, go_of, rode_of, rode_all, good_run, output_of};
+ghost use Rattle.runfile.specs.Run.{SameLent, world_of, state_as, done_as, made_of, plain_of, quiet_of, words_of, give_of, take_of, go_of, rode_of, rode_all, good_run, output_of};
 
-use crate::file::{Layout, STEP, Step, judge, step_at};
-use crate::text::{put_bad, put_head, put_line};
-use controller::slot::{Slot, Stepped};
+use crate::file::{Kind, Layout, STEP, Step, judge, step_at};
+use crate::text::Text;
+use controller::slot::{Done, Slot};
 use registers::block::Reply;
-use terms::Answer;
+use terms::{Answer, Refusal, number, value};
 
 // A run between two steps: the slot, and how many of the card's bytes are used up.
 #[derive(Clone, Copy)]
@@ -16,256 +18,152 @@ pub struct RunState {
     pub used: usize,
 }
 
-// The answer to a step, and the run after it.
-#[derive(Clone, Copy)]
-pub struct StepDone {
-    pub answer: Answer,
-    pub state: RunState,
-}
-
 impl Step {
     // A step that lends nothing: kinds 0 to 4 and 7 to 9.
-    fn quiet(self, slot: Slot) -> Stepped
-        ensures { result ≡ quiet_of self slot }
+    fn quiet(self, slot: Slot) -> Result<Done, Refusal>
+        ensures { result ≡ done_of (quiet_of self slot) }
     {
-        let kind = self.kind;
-        let detail = self.detail as u32;
-        if kind == 0 {
-            return slot.write(self.offset as u32, detail, self.first);
+        let offset = u32::from(self.offset);
+        let detail = u32::from(self.detail);
+        match Kind::try_from(self.kind) {
+            Ok(Kind::Write) => slot.write(offset, detail, self.first),
+            Ok(Kind::Read) => slot.read(offset, detail),
+            Ok(Kind::CardIn) => slot.card_in(),
+            Ok(Kind::CardOut) => slot.card_out(),
+            Ok(Kind::Respond) => slot.respond(detail, self.words()),
+            Ok(Kind::BusyOver) => slot.busy_over(),
+            Ok(Kind::DataError) => slot.data_error(detail),
+            _ => slot.set_level(detail == 1),
         }
-        if kind == 1 {
-            return slot.read(self.offset as u32, detail);
-        }
-        if kind == 2 {
-            return slot.card_in();
-        }
-        if kind == 3 {
-            return slot.card_out();
-        }
-        if kind == 4 {
-            let words = Reply {
-                first: self.first,
-                second: self.second,
-                third: self.third,
-                fourth: self.fourth,
-            };
-            return slot.respond(detail, words);
-        }
-        if kind == 7 {
-            return slot.busy_over();
-        }
-        if kind == 8 {
-            return slot.data_error(detail);
-        }
-        slot.set_level(detail == 1)
     }
-}
 
-// The card's bytes within the file: where they begin, and how many they are. The caller has judged the file.
-#[derive(Clone, Copy)]
-pub struct CardBytes {
-    pub base: usize,
-    pub count: usize,
-}
-
-// What is left of a count.
-fn left(count: usize, used: usize) -> usize
-    ensures { result ≡ count - used }
-{
-    if used < count { count - used } else { 0 }
-}
-
-fn least(a: usize, b: usize) -> usize
-    ensures { result ≡ min a b }
-{
-    if a < b { a } else { b }
+    // The four words, as a response has them.
+    fn words(self) -> Reply
+        ensures { result ≡ words_of self }
+    {
+        Reply {
+            first: self.first,
+            second: self.second,
+            third: self.third,
+            fourth: self.fourth,
+        }
+    }
 }
 
 impl RunState {
-    // A step that lends nothing is done.
-    fn plain(self, s: Stepped) -> StepDone
-        ensures { result ≡ plain_of self s }
+    // The end of a step that uses up no bytes of the card.
+    fn settle(&mut self, made: Result<Done, Refusal>) -> Answer
+        ensures { done_as result self.new ≡ made_of self.old made }
     {
-        let answer = s.answer;
-        let slot = s.slot;
-        StepDone {
-            answer,
-            state: RunState {
-                slot,
-                used: self.used,
-            },
-        }
+        let done = made?;
+        self.slot = done.slot;
+        Ok(done.value)
     }
 
-    // Kind 5: the next block-size card bytes, or what is left, used up only where they are taken.
-    fn give(self, file: &[u8], cards: CardBytes, buffer: &mut [u8]) -> StepDone
-        requires { (cards.base + cards.count ≤ length file.now) × (self.used ≤ cards.count) }
-        ensures { (result, buffer.new) ≡ give_of (record { file = file.now; base = cards.base; count = cards.count }) self buffer.old }
+    // A step that lends nothing.
+    #[tactic(auto, using(crate::proofs::Made::quiet_made))]
+    fn plain(&mut self, step: Step) -> Answer
+        ensures { done_as result self.new ≡ plain_of self.old (quiet_of step self.old.slot) }
     {
-        let slot = self.slot;
-        let used = self.used;
-        let n = least(
-            slot.registers.block_size() as usize,
-            left(cards.count, used),
-        );
-        let start = cards.base + used;
-        let end = start + n;
-        let s = slot.given(buffer, &file[start..end]);
-        let answer = s.answer;
-        let next = s.slot;
-        if answer.number() == 0 {
-            StepDone {
-                answer,
-                state: RunState {
-                    slot: next,
-                    used: used + n,
-                },
-            }
-        } else {
-            StepDone {
-                answer,
-                state: RunState { slot: next, used },
-            }
-        }
+        self.settle(step.quiet(self.slot))
     }
 
     // Kind 6.
-    fn take(self, buffer: &[u8], room: &mut [u8]) -> StepDone
-        ensures { (result, room.new) ≡ take_of self buffer.now room.old }
+    #[tactic(auto, using(crate::proofs::Made::take_made))]
+    fn take(&mut self, buffer: &[u8], room: &mut [u8]) -> Answer
+        ensures { (done_as result self.new, room.new) ≡ take_of self.old buffer.now room.old }
     {
-        let slot = self.slot;
-        self.plain(slot.taken(buffer, room))
+        self.settle(self.slot.taken(buffer, room))
     }
 
     // Kind 10.
-    fn go(self, buffer: &mut [u8], mem: &mut [u8]) -> StepDone
-        ensures { (result, buffer.new, mem.new) ≡ go_of self buffer.old mem.old }
+    #[tactic(auto, using(crate::proofs::Made::go_made))]
+    fn go(&mut self, buffer: &mut [u8], memory: &mut [u8]) -> Answer
+        ensures { (done_as result self.new, buffer.new, memory.new) ≡ go_of self.old buffer.old memory.old }
     {
-        let slot = self.slot;
-        self.plain(slot.turn(buffer, mem))
+        self.settle(self.slot.turn(buffer, memory))
     }
 
+    // Kind 5: the next block-size card bytes, or what is left, used up only where they are taken.
+    fn give(&mut self, card: &[u8], buffer: &mut [u8]) -> Answer
+        requires { self.old.used ≤ length card.now }
+        ensures { (done_as result self.new, buffer.new) ≡ give_of card.now self.old buffer.old }
+    {
+        let left = &card[self.used..];
+        let size = usize::from(self.slot.registers.block_size());
+        let offered = size.min(left.len());
+        let done = self.slot.given(buffer, &left[..offered])?;
+        self.slot = done.slot;
+        self.used += offered;
+        Ok(done.value)
+    }
+}
+
+// A run under way: between two of its steps, and what it is lent, memory, a buffer of one block, and room for blocks taken.
+#[derive(Drop)]
+struct Ride<'a> {
+    state: RunState,
+    memory: &'a mut [u8],
+    buffer: &'a mut [u8],
+    room: &'a mut [u8],
+}
+
+impl Ride<'_> {
     // One step of the file.
     #[tactic(auto, unfolding(crate::specs::Run::rode_of))]
-    fn ride(
-        self,
-        step: Step,
-        file: &[u8],
-        cards: CardBytes,
-        mem: &mut [u8],
-        buffer: &mut [u8],
-        room: &mut [u8],
-    ) -> StepDone
-        requires { (cards.base + cards.count ≤ length file.now) × (self.used ≤ cards.count) }
-        ensures { (result, record { state = result.state; memory = mem.new; buffer = buffer.new; room = room.new }) ≡ rode_of (record { file = file.now; base = cards.base; count = cards.count }) step (record { state = self; memory = mem.old; buffer = buffer.old; room = room.old }) }
+    fn step(&mut self, step: Step, card: &[u8]) -> Answer
+        requires { self.old.state.used ≤ length card.now }
+        ensures same_lent { SameLent self.old self.new }
+        ensures ride { (done_as result self.new.state, world_of self.new) ≡ rode_of card.now step (world_of self.old) }
     {
-        let kind = step.kind;
-        let slot = self.slot;
-        if kind == 5 {
-            return self.give(file, cards, buffer);
+        let buffer = &mut *self.buffer;
+        match Kind::try_from(step.kind) {
+            Ok(Kind::Given) => self.state.give(card, buffer),
+            Ok(Kind::Taken) => {
+                let room = &mut *self.room;
+                self.state.take(buffer, room)
+            }
+            Ok(Kind::Turn) => {
+                let memory = &mut *self.memory;
+                self.state.go(buffer, memory)
+            }
+            _ => self.state.plain(step),
         }
-        if kind == 6 {
-            return self.take(&buffer[..], room);
-        }
-        if kind == 10 {
-            return self.go(buffer, mem);
-        }
-        self.plain(step.quiet(slot))
     }
 
-    // So many steps of the file, from number `i` on, their lines put from a place on. `run` has judged the file and lends
-    // room for every line.
-    fn rides(
-        self,
-        file: &[u8],
-        cards: CardBytes,
-        base: usize,
-        n: usize,
-        i: usize,
-        mem: &mut [u8],
-        buffer: &mut [u8],
-        room: &mut [u8],
-        out: &mut [u8],
-        at: usize,
-    ) -> RunDone
-        requires { (cards.base + cards.count ≤ length file.now) × (self.used ≤ cards.count) × (base ≤ 40000) × (i + n ≤ 512) × (at + 19 * n ≤ length out.old) }
-        ensures { ((result.at, out.new), record { state = result.state; memory = mem.new; buffer = buffer.new; room = room.new }) ≡ rode_all (record { file = file.now; base = cards.base; count = cards.count }) base n i (record { state = self; memory = mem.old; buffer = buffer.old; room = room.old }) out.old at }
+    // So many steps of the file, and their lines. `run` has judged the file and lends room for every line.
+    fn steps(&mut self, file: &[u8], card: &[u8], base: usize, steps: usize, text: &mut Text)
+        requires { (self.old.state.used ≤ length card.now) × (base ≤ 40000) × (steps ≤ 512) × (text.old.at + 19 * steps ≤ length text.old.room.now) }
+        ensures same_lent { SameLent self.old self.new }
+        ensures same_room { text.new.room.ghost_name ≡ text.old.room.ghost_name }
+        ensures ride { ((text.new.at, text.new.room.now), world_of self.new) ≡ rode_all file.now card.now base steps 0 (world_of self.old) text.old.room.now text.old.at }
+        ensures within { text.new.at ≤ length text.new.room.now }
     {
-        if n == 0 {
-            return RunDone { state: self, at };
+        for i in 0..steps {
+            let step = step_at(file, base + STEP * i);
+            let answer = self.step(step, card);
+            text.line(
+                i,
+                usize::from(number(answer)),
+                value(answer),
+                self.state.slot.line(),
+            );
         }
-        let step = step_at(file, base + STEP * i);
-        let q = self.ride(step, file, cards, mem, buffer, room);
-        let answer = q.answer;
-        let state = q.state;
-        let next = put_line(
-            out,
-            at,
-            i as u32,
-            answer.number() as u32,
-            answer.value(),
-            state.slot.line(),
-        );
-        state.rides(
-            file,
-            cards,
-            base,
-            n - 1,
-            i + 1,
-            mem,
-            buffer,
-            room,
-            out,
-            next,
-        )
     }
-}
 
-// Where the text ends, and the run after it.
-#[derive(Clone, Copy)]
-pub struct RunDone {
-    pub state: RunState,
-    pub at: usize,
-}
-
-// A good file: its memory is copied into the lent space and lent whole to every turn.
-fn run_good(
-    file: &[u8],
-    memory: usize,
-    steps: usize,
-    card: usize,
-    mem: &mut [u8],
-    buffer: &mut [u8],
-    room: &mut [u8],
-    out: &mut [u8],
-) -> usize
-    requires { (memory ≤ 32768) × (steps ≤ 512) × (12 + memory + 20 * steps + card ≡ length file.now) × (length mem.old ≡ memory) × (9744 ≤ length out.old) }
-    ensures { ((result, out.new), (mem.new, buffer.new, room.new)) ≡ good_run file.now memory steps card buffer.old room.old out.old }
-{
-    let end = 4 + memory;
-    mem.copy_from_slice(&file[4..end]);
-    let head = put_head(out, steps as u32);
-    let start = RunState {
-        slot: Slot::power_on(),
-        used: 0,
-    };
-    let cards = CardBytes {
-        base: 12 + memory + STEP * steps,
-        count: card,
-    };
-    let rode = start.rides(
-        file,
-        cards,
-        8 + memory,
-        steps,
-        0,
-        mem,
-        buffer,
-        room,
-        out,
-        head,
-    );
-    rode.at
+    // A good file, from power-on: its memory is copied into the lent space and lent whole to every turn.
+    fn run(&mut self, file: &[u8], layout: Layout, text: &mut Text)
+        requires { Fills file.now layout × (length self.old.memory.now ≡ layout.memory) × (self.old.state ≡ state_as power_on 0) × (text.old.at ≡ 0) × (9744 ≤ length text.old.room.now) }
+        ensures same_lent { SameLent self.old self.new }
+        ensures same_room { text.new.room.ghost_name ≡ text.old.room.ghost_name }
+        ensures run { ((text.new.at, text.new.room.now), (self.new.memory.now, self.new.buffer.now, self.new.room.now)) ≡ good_run file.now layout self.old.buffer.now self.old.room.now text.old.room.now }
+        ensures within { text.new.at ≤ length text.new.room.now }
+    {
+        self.memory.copy_from_slice(&file[4..4 + layout.memory]);
+        text.head(layout.steps);
+        let card = &file[12 + layout.memory + STEP * layout.steps..];
+        self.steps(file, card, 8 + layout.memory, layout.steps, text);
+    }
 }
 
 // Runs a file: its whole output goes to the front of `out`. The rest is working space: memory, a buffer of one block, and
@@ -278,24 +176,23 @@ pub fn run(
     out: &mut [u8],
 ) -> usize
     requires { (32768 ≤ length mem.old) × (9744 ≤ length out.old) }
-    ensures { (result, out.new) ≡ put_of out.old 0 (output_of file.now buffer.old room.old) }
+    ensures text { (result, out.new) ≡ put_of out.old 0 (output_of file.now buffer.old room.old) }
+    ensures within { result ≤ length out.new }
 {
-    let layout = judge(file);
-    match layout {
-        Layout::Bad => put_bad(out),
-        Layout::Good {
-            memory,
-            steps,
-            card,
-        } => run_good(
-            file,
-            memory,
-            steps,
-            card,
-            &mut mem[..memory],
+    let mut text = Text::new(out);
+    if let Some(layout) = judge(file) {
+        let mut ride = Ride {
+            state: RunState {
+                slot: Slot::power_on(),
+                used: 0,
+            },
+            memory: &mut mem[..layout.memory],
             buffer,
             room,
-            out,
-        ),
+        };
+        ride.run(file, layout, &mut text);
+    } else {
+        text.bad();
     }
+    text.at
 }

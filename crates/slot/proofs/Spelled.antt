@@ -21,15 +21,14 @@ use Rattle.controller.specs.declared.slot.Kind.TheVariants.{Silent, Long, Short,
 use Rattle.controller.specs.declared.slot.Command.{Command}
 use Rattle.controller.specs.declared.slot.Command.TheVariants as command
 use Rattle.controller.specs.declared.slot.Slot.{Slot}
-use Rattle.controller.specs.declared.slot.Stepped as controller
+use Rattle.controller.specs.Slot as controller
 use Rattle.controller.proofs.Causes.{by_test}
 use Rattle.controller.proofs.Refused.{refused}
 use Rattle.terms.specs.Flag.{unit_of}
 use Rattle.slot.specs.Record.{flag_at, way_at, command_at, stage_at, dat_at, slot_of, kind_tag, way_tag, command_part, stage_part, dat_part, record_of}
-use Rattle.slot.specs.Step.{answer_of, keeps, spelled}
+use Rattle.slot.specs.Step.{Stepped, answer_of, keeps, spelled}
 use Rattle.slot.specs.Lines.{line_at, line_part}
 use Rattle.slot.specs.declared.record.Record.{Record}
-use Rattle.slot.specs.declared.step.Stepped.{Stepped}
 use Rattle.slot.specs.Same.{world_of, record_step, Agree}
 
 -- ---- the record of a slot
@@ -56,7 +55,7 @@ command_spells command.Halted = refl
 
 stage_spells : (s : Stage) → stage_at (stage_part s) ≡ s
 stage_spells Fetching = refl
-stage_spells (Moving rest at last int) = λ j. Moving rest at (flag_spells last j) (flag_spells int j)
+stage_spells (Moving h) = λ j. Moving (record { rest = h.rest; at = h.at; last = flag_spells h.last j; int = flag_spells h.int j })
 stage_spells Stopped = refl
 
 dat_spells : (d : Dat) → dat_at (dat_part d) ≡ d

@@ -1,39 +1,32 @@
 -- What needs no slot, spelled in numbers: surveys, the boot check, lines written and read. Assumes nothing: these are definitions.
-use Rattle.std.specs.Prelude.{ℕ, List}
+use Rattle.std.specs.Prelude.{ℕ, List, Bool, ⊤, Result}
+use Rattle.terms.specs.declared.Refusal.{Refusal}
 use Rattle.terms.specs.Answers.{number_of}
 use Rattle.terms.specs.Counts.{bytes}
 use Rattle.table.specs.Line as line
 use Rattle.table.specs.Written as written
 use Rattle.table.specs.Survey as table
 use Rattle.table.specs.declared.line.Line.{Line}
-use Rattle.table.specs.declared.survey.Surveyed.{Surveyed}
-use Rattle.table.specs.declared.survey.Booted.{Booted}
+use Rattle.table.specs.declared.survey.Report.{Report}
 use Rattle.terms.specs.Flag.{unit_of}
 use Rattle.slot.specs.Record.{flag_at}
-use Rattle.slot.specs.Step.{answer_of}
 use Rattle.slot.specs.declared.step.Answer.{Answer}
 use Rattle.slot.specs.declared.lines.Survey.{Survey}
 use Rattle.slot.specs.declared.lines.Boot.{Boot}
 use Rattle.slot.specs.declared.lines.LinePart.{LinePart}
 
 -- "kind (0 well, 1 error, 2 limit), the 054h byte, lines tried, bytes named by sound Tran lines, and the address after"
-abbrev pub survey_part : Surveyed → Survey
+abbrev pub survey_part : Result Report Refusal → Survey
 survey_part s =
-    record {
-      number = number_of s.answer;
-      kind = s.report.kind;
-      state = s.report.state;
-      lines = s.report.lines;
-      bytes = s.report.bytes.0;
-      after = s.report.after;
-    }
+    let f = table.figures_of s in
+    record { number = number_of s; kind = f.kind; state = f.state; lines = f.lines; bytes = f.bytes; after = f.after }
 
 abbrev pub survey_of : List ℕ → ℕ → ℕ → ℕ → Survey
 survey_of mem start owed limit = survey_part (table.survey_of mem start (bytes owed) limit)
 
 -- "says yes exactly on kind 0"
-abbrev pub boot_part : Booted → Boot
-boot_part b = record { number = number_of b.answer; yes = unit_of b.yes }
+abbrev pub boot_part : Result Bool Refusal → Boot
+boot_part b = record { number = number_of b; yes = unit_of (table.yes_of b) }
 
 abbrev pub boot_of : List ℕ → ℕ → ℕ → Boot
 boot_of mem start owed = boot_part (table.boot_of mem start (bytes owed))
@@ -59,8 +52,12 @@ line_part l =
       address = l.address;
     }
 
+-- a line that is written has value 0
+abbrev pub written_part : Result ⊤ Refusal → Answer
+written_part a = record { number = number_of a; value = 0 }
+
 abbrev pub write_of : List ℕ → LinePart → Answer × List ℕ
-write_of room p = let w = written.write_of room (line_at p) in (answer_of w.0, w.1)
+write_of room p = let w = written.write_of room (line_at p) in (written_part w.0, w.1)
 
 abbrev pub read_of : List ℕ → LinePart
 read_of b = line_part (line.read_of b)

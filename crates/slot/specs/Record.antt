@@ -35,7 +35,9 @@ command_at p =
     (cond (eqb p.tag 1) (command.Waits (record { kind = kind_of p.kind; crc = flag_at p.crc; index = flag_at p.index })) command.Halted)
 
 abbrev pub stage_at : StagePart → Stage
-stage_at p = cond (eqb p.tag 0) Fetching (cond (eqb p.tag 1) (Moving (bytes p.rest) p.at (flag_at p.last) (flag_at p.int)) Stopped)
+stage_at p =
+    cond (eqb p.tag 0) Fetching
+    (cond (eqb p.tag 1) (Moving (record { rest = bytes p.rest; at = p.at; last = flag_at p.last; int = flag_at p.int })) Stopped)
 
 abbrev pub transfer_at : DatPart → Transfer
 transfer_at p =
@@ -90,7 +92,7 @@ command_part command.Halted = record { tag = 2; kind = 0; crc = 0; index = 0 }
 
 abbrev pub stage_part : Stage → StagePart
 stage_part Fetching = record { tag = 0; last = 0; int = 0; rest = 0; at = 0 }
-stage_part (Moving rest at last int) = record { tag = 1; last = unit_of last; int = unit_of int; rest = rest.0; at = at }
+stage_part (Moving h) = record { tag = 1; last = unit_of h.last; int = unit_of h.int; rest = h.rest.0; at = h.at }
 stage_part Stopped = record { tag = 2; last = 0; int = 0; rest = 0; at = 0 }
 
 -- a DAT side without a running transfer

@@ -3,9 +3,8 @@ use Rattle.std.specs.Prelude.{◌≡◌, List, [], true, false, ℕ}
 use Rattle.terms.specs.Answers.{number_of, value_of}
 use Rattle.controller.specs.Steps.{Step, read, write, card_in, card_out, response, block_given, block_taken, busy_over_step, data_error_step, level, turn, World, Result}
 use Rattle.slot.specs.Record.{slot_of}
-use Rattle.slot.specs.Step.{read_of, write_of, in_of, out_of, respond_of, level_of, busy_over, data_error, given_of, taken_of, turn_of}
+use Rattle.slot.specs.Step.{Stepped, read_of, write_of, in_of, out_of, respond_of, level_of, busy_over, data_error, given_of, taken_of, turn_of}
 use Rattle.slot.specs.declared.record.Record.{Record}
-use Rattle.slot.specs.declared.step.Stepped.{Stepped}
 
 -- the world that a record spells, with the buffer and the memory beside it
 abbrev pub world_of : Record → List ℕ → List ℕ → World

@@ -1,15 +1,21 @@
 -- The steps on a record: each is the controller's own on the slot that the record spells. Assumes nothing: these are definitions.
-use Rattle.std.specs.Prelude.{ℕ, List, cond}
+use Rattle.std.specs.Prelude.{ℕ, List, cond, Result, Ok, Err}
+use Rattle.terms.specs.declared.Refusal.{Refusal}
+use Rattle.controller.specs.declared.slot.Done.{Done}
 use Rattle.terms.specs.Answers.{number_of, value_of, is_done}
-use Rattle.terms.specs.declared.Answer as terms
+use Rattle.terms.specs.Answers as terms
 use Rattle.controller.specs.Access as access
 use Rattle.controller.specs.Card as card
 use Rattle.controller.specs.Data as side
-use Rattle.controller.specs.declared.slot.Stepped as controller
+use Rattle.controller.specs.Slot as controller
 use Rattle.slot.specs.Record.{flag_at, slot_of, record_of}
 use Rattle.slot.specs.declared.record.Record.{Record}
 use Rattle.slot.specs.declared.step.Answer.{Answer}
-use Rattle.slot.specs.declared.step.Stepped.{Stepped}
+
+-- what a step gives: the record after it, and its answer
+pub record Stepped : Type 0 where
+  pub after : Record
+  pub answer : Answer
 
 -- "An answer is a number and a value."
 abbrev pub answer_of : terms.Answer → Answer
@@ -18,6 +24,15 @@ answer_of a = record { number = number_of a; value = value_of a }
 -- "All but 0 ... change nothing": the record stays as it was, byte for byte
 abbrev pub keeps : Record → terms.Answer → Stepped
 keeps r a = record { after = r; answer = answer_of a }
+
+-- the same, as the program of the controller gives it
+abbrev pub made_answer : Result Done Refusal → terms.Answer
+made_answer (Ok done) = Ok done.value
+made_answer (Err refusal) = Err refusal
+
+abbrev pub settled : Record → Result Done Refusal → Stepped
+settled r (Ok done) = record { after = record_of done.slot; answer = answer_of (Ok done.value) }
+settled r (Err refusal) = keeps r (Err refusal)
 
 -- what an entry of the controller gives, spelled out
 abbrev pub spelled : Record → controller.Stepped → Stepped

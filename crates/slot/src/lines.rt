@@ -1,17 +1,16 @@
-// What needs no slot: the survey of a table, the boot check, a line written and read, with flat results. `slot_c`
-// exports them under these names.
-ghost use Rattle.std.specs.Prelude.{◌≡◌};
-ghost use Rattle.terms.specs.Counts.{bytes};
-ghost use Rattle.slot.specs.Lines.{survey_of, boot_of, line_at, line_part, write_of, read_of};
+// What needs no slot: the survey of a table, the boot check, a line written and read, with flat results. `slot_c` exports
+// them.
+ghost use Rattle.std.specs.Prelude.{◌≡◌, Ok};
+ghost use Rattle.slot.specs.Lines.{survey_part, survey_of, boot_part, boot_of, line_at, line_part, write_of, read_of};
 
-use crate::record::unit_at;
-use crate::step::{Answer, answer_of};
+use crate::step::Answer;
 use table::line::{Flags, Line};
-use terms::ByteCount;
+use table::survey::{Kind, Report};
+use terms::{ByteCount, Refusal};
 
 // What a survey tells: its number, kind (0 well, 1 error, 2 limit), the 054h byte, lines tried, bytes named, the address after.
 #[repr(C)]
-#[derive(Clone, Copy)]
+#[derive(Clone, Copy, Default)]
 pub struct Survey {
     pub number: u32,
     pub kind: u32,
@@ -42,80 +41,115 @@ pub struct LinePart {
     pub address: u32,
 }
 
-fn line_at(p: LinePart) -> Line
-    ensures { result ≡ line_at p }
-{
-    let flags = Flags {
-        valid: p.valid != 0,
-        end: p.end != 0,
-        int: p.int != 0,
-        act1: p.act1 != 0,
-        act2: p.act2 != 0,
-    };
-    Line {
-        flags,
-        length: ByteCount(p.length),
-        address: p.address,
+impl From<Report> for Survey {
+    ghost from_gives = { λ report survey. survey ≡ survey_part (Ok report) };
+
+    fn from(report: Report) -> Survey {
+        let (kind, state) = match report.kind {
+            Kind::Well => (0, 0),
+            Kind::Error(failure) => (1, failure.byte()),
+            Kind::Limit => (2, 0),
+        };
+        Survey {
+            number: 0,
+            kind,
+            state: state.into(),
+            lines: report.lines,
+            bytes: report.bytes.0,
+            after: report.after,
+        }
     }
 }
 
-fn line_part(l: Line) -> LinePart
-    ensures { result ≡ line_part l }
-{
-    let f = l.flags;
-    LinePart {
-        valid: unit_at(f.valid),
-        end: unit_at(f.end),
-        int: unit_at(f.int),
-        act1: unit_at(f.act1),
-        act2: unit_at(f.act2),
-        length: l.length.0,
-        address: l.address,
+impl From<Result<Report, Refusal>> for Survey {
+    ghost from_gives = { λ got survey. survey ≡ survey_part got };
+
+    // Refused, all but the number is 0.
+    fn from(got: Result<Report, Refusal>) -> Survey {
+        match got {
+            Ok(report) => report.into(),
+            Err(refusal) => Survey {
+                number: refusal.row().into(),
+                ..Default::default()
+            },
+        }
+    }
+}
+
+impl From<Result<bool, Refusal>> for Boot {
+    ghost from_gives = { λ got boot. boot ≡ boot_part got };
+
+    // Refused, it is no.
+    fn from(got: Result<bool, Refusal>) -> Boot {
+        Boot {
+            number: terms::number(got).into(),
+            yes: got.unwrap_or(false).into(),
+        }
+    }
+}
+
+impl From<LinePart> for Line {
+    ghost from_gives = { λ p line. line ≡ line_at p };
+
+    fn from(p: LinePart) -> Line {
+        let flags = Flags {
+            valid: p.valid != 0,
+            end: p.end != 0,
+            int: p.int != 0,
+            act1: p.act1 != 0,
+            act2: p.act2 != 0,
+        };
+        Line {
+            flags,
+            length: ByteCount(p.length),
+            address: p.address,
+        }
+    }
+}
+
+impl From<Line> for LinePart {
+    ghost from_gives = { λ line p. p ≡ line_part line };
+
+    fn from(line: Line) -> LinePart {
+        let f = line.flags;
+        LinePart {
+            valid: f.valid.into(),
+            end: f.end.into(),
+            int: f.int.into(),
+            act1: f.act1.into(),
+            act2: f.act2.into(),
+            length: line.length.0,
+            address: line.address,
+        }
     }
 }
 
 // A table is surveyed over memory.
-pub fn sdhc_survey(mem: &[u8], start: u32, owed: u32, limit: u32) -> Survey
+pub fn survey_table(mem: &[u8], start: u32, owed: u32, limit: u32) -> Survey
     ensures { result ≡ survey_of mem.now start owed limit }
 {
-    let got = table::survey::survey(mem, start, ByteCount(owed), limit);
-    let answer = got.answer;
-    let report = got.report;
-    let number = answer.number();
-    Survey {
-        number: number as u32,
-        kind: report.kind as u32,
-        state: report.state as u32,
-        lines: report.lines,
-        bytes: report.bytes.0,
-        after: report.after,
-    }
+    table::survey::survey(mem, start, ByteCount(owed), limit).into()
 }
 
 // Would a transfer of so many bytes go well?
-pub fn sdhc_boot_check(mem: &[u8], start: u32, owed: u32) -> Boot
+pub fn boot_check(mem: &[u8], start: u32, owed: u32) -> Boot
     ensures { result ≡ boot_of mem.now start owed }
 {
-    let got = table::survey::boot_check(mem, start, ByteCount(owed));
-    let answer = got.answer;
-    let number = answer.number();
-    let yes = unit_at(got.yes);
-    Boot {
-        number: number as u32,
-        yes: yes as u32,
-    }
+    table::survey::boot_check(mem, start, ByteCount(owed)).into()
 }
 
 // A line is written into eight bytes.
-pub fn sdhc_write_line(room: &mut [u8], line: LinePart) -> Answer
+pub fn write_line(room: &mut [u8], line: LinePart) -> Answer
     ensures { (result, room.new) ≡ write_of room.old line }
 {
-    answer_of(table::written::write_line(room, line_at(line)))
+    table::written::write_line(room, line.into())
+        .map(|()| 0)
+        .into()
 }
 
 // A line is read from its bytes.
-pub fn sdhc_read_line(bytes: &[u8]) -> LinePart
+pub fn read_line(bytes: &[u8]) -> LinePart
     ensures { result ≡ read_of bytes.now }
 {
-    line_part(table::line::read_line(bytes))
+    table::line::read_line(bytes).into()
 }

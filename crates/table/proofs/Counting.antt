@@ -8,15 +8,18 @@ use mathlib.Core.Bool.{Bool, true, false, cond}
 use lib.ListN.{length}
 use Rattle.terms.specs.Counts.{bytes, more, less}
 use Rattle.terms.specs.declared.ByteCount.{ByteCount}
-use Rattle.table.specs.Fetch.{stop_state, mismatch, fetch_of}
-use Rattle.table.specs.Trace.{Kind, fault, Trace, ends, add_line, add_area, add_ring, finish_kind, onward, along, trace_of, total}
-use Rattle.table.specs.Survey.{report_as, report_from}
+use Rattle.table.specs.Fetch.{fetch_of}
+use Rattle.table.specs.declared.fetch.Failure.TheVariants as failure
+use Rattle.table.specs.Trace.{Trace, ends, add_line, add_area, add_ring, finish_kind, onward, along, trace_of, total}
+use Rattle.table.specs.declared.survey.Kind.{Kind}
+use Rattle.table.specs.declared.survey.Kind.TheVariants.{Error}
+use Rattle.table.specs.Survey.{report_as, report_from, report_of, behind_of}
 use Rattle.table.specs.declared.fetch.Fetched.{Fetched}
 use Rattle.table.specs.declared.fetch.Fetched.TheVariants.{Fault, Step, Data}
 use Rattle.table.specs.declared.survey.Report.{Report}
 
 -- bytes still owed at the End line are the error of state 00 with Mismatch
-pub finish_owing : (n : ℕ) → (n ≡ 0 → ⊥) → finish_kind n ≡ fault (stop_state + mismatch)
+pub finish_owing : (n : ℕ) → (n ≡ 0 → ⊥) → finish_kind n ≡ Error failure.Owing
 finish_owing zero h = absurd (h refl)
 finish_owing (suc n) h = refl
 
@@ -36,10 +39,10 @@ count_area lines named n at t = ap (λ (m : ℕ). report_as t.kind (lines + leng
 
 -- what a fetch adds to a report: the error, the end of the table, or the rest of it
 abbrev pub told : ℕ → ByteCount → ByteCount → (ℕ → ByteCount → ByteCount → Report) → Fetched → Report
-told lines named owed rest (Fault state next) = report_as (fault state) lines named next
+told lines named owed rest (Fault state next) = report_as (Error state) lines named next
 told lines named owed rest (Step next last int) = cond last (report_as (finish_kind owed.0) lines named next) (rest next owed named)
-told lines named owed rest (Data next at n last int) =
-    cond last (report_as (finish_kind (less owed n).0) lines (more named n) next) (rest next (less owed n) (more named n))
+told lines named owed rest (Data next h) =
+    cond h.last (report_as (finish_kind (less owed h.rest).0) lines (more named h.rest) next) (rest next (less owed h.rest) (more named h.rest))
 
 module _ (rest : ℕ → ByteCount → Trace) (lines : ℕ) where
   onward_told : (last : Bool) (next : ℕ) (owed named : ByteCount)
@@ -52,11 +55,11 @@ module _ (rest : ℕ → ByteCount → Trace) (lines : ℕ) where
   along_told : (owed named : ByteCount) (f : Fetched)
       → report_from lines named (along rest owed f) ≡ told lines named owed (λ next left met. report_from lines met (rest next left)) f
   unfolding along
-  along_told owed named (Fault state next) = count_end lines named (fault state) next
+  along_told owed named (Fault state next) = count_end lines named (Error state) next
   along_told owed named (Step next last int) = onward_told last next owed named
-  along_told owed named (Data next at n last int) =
-      count_area lines named n at (add_ring int (onward rest last next (less owed n)))
-      ∙ onward_told last next (less owed n) (more named n)
+  along_told owed named (Data next h) =
+      count_area lines named h.rest h.at (add_ring h.int (onward rest h.last next (less owed h.rest)))
+      ∙ onward_told h.last next (less owed h.rest) (more named h.rest)
 
 -- the clause of `trace_of` for a line that is allowed, in the code's terms
 pub follow_told : (mem : List ℕ) (n at : ℕ) (owed named : ByteCount) (lines : ℕ) → (n ≡ 0 → ⊥)
@@ -68,3 +71,10 @@ follow_told mem (suc n) at owed named lines h =
     rw (sub-one (suc n))
     (count_line lines named at (along (trace_of mem n) owed (fetch_of mem at owed))
     ∙ along_told (trace_of mem n) (lines + 1) owed named (fetch_of mem at owed))
+
+-- the report of what follows a line, behind that line
+pub behind_told : (named : ByteCount) (t : Trace) → behind_of named (report_of t) ≡ report_from 1 named t
+behind_told named t =
+    let lines : 0 + length t.lines + 1 ≡ 1 + length t.lines = omega arith in
+    let all : named.0 + (0 + (total t.named).0) ≡ named.0 + (total t.named).0 = omega arith in
+    λ i. report_as t.kind (lines i) (bytes (all i)) t.after

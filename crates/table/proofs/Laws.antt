@@ -10,7 +10,8 @@ use borrow.Author.Tests.{leb-true, ltb-false, eqb-false}
 use Rattle.terms.specs.declared.ByteCount.{ByteCount}
 use Rattle.table.specs.Memory.{in_memory}
 use Rattle.table.specs.Line.{line_size, line_bytes, byte_of, half_of, length_of, address_of, flags_of, act_of}
-use Rattle.table.specs.Fetch.{move_state, mismatch, fetch_state, next_line, data_of, tran_of, acted_of, fetch_of}
+use Rattle.table.specs.Fetch.{next_line, data_of, tran_of, acted_of, fetch_of}
+use Rattle.table.specs.declared.fetch.Failure.TheVariants as failure
 use Rattle.table.specs.declared.line.Act.{Act}
 use Rattle.table.specs.declared.line.Act.TheVariants.{Tran, Link, Other}
 use Rattle.table.specs.declared.fetch.Fetched.{Fetched}
@@ -29,7 +30,7 @@ line_there mem at = go (in_memory (length mem) at line_size) refl
 abbrev pub Good : ℕ → ByteCount → Fetched → Type 0
 Good size owed (Fault state next) = Unit
 Good size owed (Step next last int) = Unit
-Good size owed (Data next at n last int) = (0 < n.0) × (n.0 ≤ owed.0) × (at + n.0 ≤ size)
+Good size owed (Data next h) = (0 < h.rest.0) × (h.rest.0 ≤ owed.0) × (h.at + h.rest.0 ≤ size)
 
 length_pos : (l : List ℕ) → 0 < length_of l
 unfolding length_of
@@ -44,7 +45,7 @@ tran_good : (l : List ℕ) (next size : ℕ) (owed : ByteCount) → Good size ow
 tran_good l next size owed = go (ltb owed.0 (length_of l)) (in_memory size (address_of l) (length_of l)) refl refl
   where
     go : (t u : Bool) → ltb owed.0 (length_of l) ≡ t → in_memory size (address_of l) (length_of l) ≡ u
-        → Good size owed (cond t (Fault (move_state + mismatch) next) (cond u (data_of l next) (Fault move_state next)))
+        → Good size owed (cond t (Fault failure.TooLong next) (cond u (data_of l next) (Fault failure.Beyond next)))
     go true u e f = tt
     go false false e f = tt
     go false true e f = (length_pos l, ltb-false _ _ e, leb-true _ _ f)
@@ -58,6 +59,6 @@ pub fetch_good : (mem : List ℕ) (at : ℕ) (owed : ByteCount) → Good (length
 unfolding fetch_of
 fetch_good mem at owed = go (line_bytes mem at) (flags_of (line_bytes mem at)).valid
   where
-    go : (l : List ℕ) (t : Bool) → Good (length mem) owed (cond t (acted_of (act_of (flags_of l)) l at (length mem) owed) (Fault fetch_state at))
+    go : (l : List ℕ) (t : Bool) → Good (length mem) owed (cond t (acted_of (act_of (flags_of l)) l at (length mem) owed) (Fault failure.Unsound at))
     go l true = acted_good (act_of (flags_of l)) l at (length mem) owed
     go l false = tt

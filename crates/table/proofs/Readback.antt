@@ -11,8 +11,9 @@ use lib.Dec.{leb, eqb}
 use borrow.Author.Tests.{leb-true, leb-false, eqb-true, eqb-false, eq-eqb, ne_eqb}
 use Rattle.terms.specs.Counts.{bytes}
 use Rattle.terms.specs.Answers.{number_of}
-use Rattle.terms.specs.declared.Answer.{Answer}
-use Rattle.terms.specs.declared.Answer.TheVariants.{Done, LineRefused}
+use Rattle.std.specs.Prelude.{⊤, Result, Ok, Err}
+use Rattle.terms.specs.declared.Refusal.{Refusal}
+use Rattle.terms.specs.declared.Refusal.TheVariants.{LineRefused}
 use Rattle.table.specs.Line.{line_size, byte_of, length_of, address_of, flags_of, read_of}
 use Rattle.terms.specs.Flag.{unit_of}
 use Rattle.table.specs.Written.{flag_byte, line_of, writable, write_of}
@@ -37,14 +38,14 @@ fits l = go (leb 1 l.length.0) (leb l.length.0 65536) (eqb (l.address % 4) 0) re
     go false u v d e f = unfit (inl (omega (arith, leb-false)))
 
 -- what becomes of a room: it takes a line that fits, or it stays
-pub data Written (room : List ℕ) (l : Line) : Answer × List ℕ → Type 0 where
-  taken : length room ≡ line_size → Fits l true → Written room l (Done 0, line_of l)
-  kept : (length room ≢ line_size) ⊎ Unfit l → Written room l (LineRefused, room)
+pub data Written (room : List ℕ) (l : Line) : Result ⊤ Refusal × List ℕ → Type 0 where
+  taken : length room ≡ line_size → Fits l true → Written room l (Ok tt, line_of l)
+  kept : (length room ≢ line_size) ⊎ Unfit l → Written room l (Err LineRefused, room)
 
 pub written : (room : List ℕ) (l : Line) → Written room l (write_of room l)
 written room l = go (eqb (length room) line_size) (writable l) refl (fits l)
   where
-    go : (t u : Bool) → eqb (length room) line_size ≡ t → Fits l u → Written room l (cond (t && u) (Done 0, line_of l) (LineRefused, room))
+    go : (t u : Bool) → eqb (length room) line_size ≡ t → Fits l u → Written room l (cond (t && u) (Ok tt, line_of l) (Err LineRefused, room))
     go true true e f = taken (eqb-true _ _ e) f
     go true false e (unfit w) = kept (inr w)
     go false u e f = kept (inl (eqb-false _ _ e))
@@ -103,6 +104,6 @@ read_back l w = fit_back l (rw w at (fits l))
 pub write_read : (room : List ℕ) (l : Line) → l.address < 2 ^ 32 → number_of (write_of room l).0 ≡ 0 → read_of (write_of room l).1 ≡ l
 write_read room l small = go (written room l)
   where
-    go : {r : Answer × List ℕ} → Written room l r → number_of r.0 ≡ 0 → read_of r.1 ≡ l
+    go : {r : Result ⊤ Refusal × List ℕ} → Written room l r → number_of r.0 ≡ 0 → read_of r.1 ≡ l
     go (taken e f) h = fit_back l f small
     go (kept w) h = absurd (omega arith)

@@ -13,8 +13,11 @@ use Rattle.terms.specs.Counts.{bytes, less}
 use Rattle.terms.specs.declared.ByteCount.{ByteCount}
 use Rattle.table.specs.Memory.{in_memory}
 use Rattle.table.specs.Line.{line_bytes, length_of, address_of, flags_of, act_of}
-use Rattle.table.specs.Fetch.{stop_state, move_state, mismatch, fetch_state, next_line, data_of, tran_of, acted_of, fetch_of}
-use Rattle.table.specs.Trace.{well, fault, limit, Area, Trace, ends, add_ring, finish_kind, onward, along, trace_of, total}
+use Rattle.table.specs.Fetch.{next_line, data_of, tran_of, acted_of, fetch_of}
+use Rattle.table.specs.declared.fetch.Failure.TheVariants as failure
+use Rattle.table.specs.declared.fetch.Failure.{Failure}
+use Rattle.table.specs.Trace.{Area, Trace, ends, add_ring, finish_kind, onward, along, trace_of, total}
+use Rattle.table.specs.declared.survey.Kind.TheVariants.{Well, Error, Limit}
 use Rattle.table.specs.Sound.{areas_of, next_of, joined, beyond, linked, data_of_table, Inside, Sound}
 use Rattle.table.specs.declared.line.Act.{Act}
 use Rattle.table.specs.declared.line.Act.TheVariants.{Tran, Link, Other}
@@ -26,17 +29,17 @@ Fits size owed says named = (says ≡ some named) × Inside size named × (total
 
 -- a trace goes well exactly when the data fits, and then names it
 record Agrees (size : ℕ) (owed : ByteCount) (t : Trace) (says : Option (List Area)) : Type 0 where
-  fits : t.kind ≡ well → Fits size owed says t.named
-  goes : (named : List Area) → Fits size owed says named → t.kind ≡ well
+  fits : t.kind ≡ Well → Fits size owed says t.named
+  goes : (named : List Area) → Fits size owed says named → t.kind ≡ Well
 
 -- data that is not there is no data; an error and the limit are not well
 not_there : (named : List Area) → none ≢ some named
 not_there named e = let z : ◌≡◌ {A = ℕ} 0 1 = cc in omega arith
 
-fault_well : (state : ℕ) → fault state ≢ well
+fault_well : (state : Failure) → Error state ≢ Well
 fault_well state e = let z : ◌≡◌ {A = ℕ} 0 1 = cc in omega arith
 
-limit_well : limit ≢ well
+limit_well : Limit ≢ Well
 limit_well e = let z : ◌≡◌ {A = ℕ} 0 1 = cc in omega arith
 
 -- equal counters count as many bytes
@@ -55,15 +58,15 @@ module _ (size : ℕ) where
   ring_agrees owed int a = record { fits = a.fits; goes = a.goes }
 
   -- an error agrees with data that does not fit
-  fault_agrees : (owed : ByteCount) (state at : ℕ) (says : Option (List Area)) → ((named : List Area) → Fits size owed says named → ⊥)
-      → Agrees size owed (ends (fault state) at) says
+  fault_agrees : (owed : ByteCount) (state : Failure) (at : ℕ) (says : Option (List Area)) → ((named : List Area) → Fits size owed says named → ⊥)
+      → Agrees size owed (ends (Error state) at) says
   fault_agrees owed state at says h = record { fits = λ w. absurd (fault_well state w); goes = λ named f. absurd (h named f) }
 
   -- the End line is done: all is well if no more is owed
   end_agrees : (n at : ℕ) → Agrees size (bytes n) (ends (finish_kind n) at) (some [])
   unfolding total
   end_agrees zero at = record { fits = λ w. (refl, tt, refl); goes = λ named f. refl }
-  end_agrees (suc n) at = fault_agrees (bytes (suc n)) (stop_state + mismatch) at (some []) (λ named f.
+  end_agrees (suc n) at = fault_agrees (bytes (suc n)) failure.Owing at (some []) (λ named f.
       let e : named ≡ [] = cc f.0 in
       let z : 0 ≡ suc n = as_many (rw e at f.2) in
       omega arith)
@@ -100,16 +103,16 @@ module _ (size : ℕ) where
         area : Area
         area = record { at = address_of l; len = length_of l }
 
-        wrong : (state : ℕ) → (address_of l + length_of l ≤ size → length_of l ≤ owed.0 → ⊥)
-            → Agrees size owed (ends (fault state) next) (joined (area ∷ []) onto)
+        wrong : (state : Failure) → (address_of l + length_of l ≤ size → length_of l ≤ owed.0 → ⊥)
+            → Agrees size owed (ends (Error state) next) (joined (area ∷ []) onto)
         wrong state h =
             fault_agrees owed state next (joined (area ∷ []) onto) (λ named f. let s = area_fits owed area onto named f in h s.0 s.1)
 
         go : (t u : Bool) → ltb owed.0 (length_of l) ≡ t → in_memory size (address_of l) (length_of l) ≡ u
-            → Agrees size owed (along rest owed (cond t (Fault (move_state + mismatch) next) (cond u (data_of l next) (Fault move_state next))))
+            → Agrees size owed (along rest owed (cond t (Fault failure.TooLong next) (cond u (data_of l next) (Fault failure.Beyond next))))
             (joined (area ∷ []) onto)
-        go true u long fit = wrong (move_state + mismatch) (λ i o. omega (arith, ltb-true owed.0 (length_of l) long))
-        go false false long fit = wrong move_state (λ i o. omega (arith, leb-false (address_of l + length_of l) size fit))
+        go true u long fit = wrong failure.TooLong (λ i o. omega (arith, ltb-true owed.0 (length_of l) long))
+        go false false long fit = wrong failure.Beyond (λ i o. omega (arith, leb-false (address_of l + length_of l) size fit))
         go false true long fit =
             let a = onward_agrees (flags_of l).end next (less owed (bytes (length_of l))) in
             let h = ltb-false owed.0 (length_of l) long in
@@ -128,10 +131,10 @@ module _ (size : ℕ) where
 
     -- a line, with Valid or without
     line_agrees : (l : List ℕ) (at : ℕ) (owed : ByteCount) (t : Bool)
-        → Agrees size owed (along rest owed (cond t (acted_of (act_of (flags_of l)) l at size owed) (Fault fetch_state at))) (linked says at l t)
+        → Agrees size owed (along rest owed (cond t (acted_of (act_of (flags_of l)) l at size owed) (Fault failure.Unsound at))) (linked says at l t)
     unfolding along linked
     line_agrees l at owed true = acted_agrees (act_of (flags_of l)) l at owed
-    line_agrees l at owed false = fault_agrees owed fetch_state at none (λ named f. not_there named f.0)
+    line_agrees l at owed false = fault_agrees owed failure.Unsound at none (λ named f. not_there named f.0)
 
 -- a table's trace and what the table says of itself
 trace_agrees : (mem : List ℕ) (n at : ℕ) (owed : ByteCount) → Agrees (length mem) owed (trace_of mem n at owed) (data_of_table mem n at)
@@ -143,11 +146,11 @@ trace_agrees mem (suc n) at owed =
 
 module _ (mem : List ℕ) (n at : ℕ) (owed : ByteCount) where
   -- a table that goes well is sound for the bytes owed, and the trace names its data
-  pub well_sound : (trace_of mem n at owed).kind ≡ well → Sound mem n at owed (trace_of mem n at owed).named
+  pub well_sound : (trace_of mem n at owed).kind ≡ Well → Sound mem n at owed (trace_of mem n at owed).named
   well_sound w = let f = (trace_agrees mem n at owed).fits w in record { there = f.0; inside = f.1; adds = f.2 }
 
   -- "well", stated on the table itself
-  pub well_exactly : ((trace_of mem n at owed).kind ≡ well) ↔ ((named : List Area) × Sound mem n at owed named)
+  pub well_exactly : ((trace_of mem n at owed).kind ≡ Well) ↔ ((named : List Area) × Sound mem n at owed named)
   well_exactly = (
     λ w. ((trace_of mem n at owed).named, well_sound w),
     λ s. (trace_agrees mem n at owed).goes s.0 (s.1.there, s.1.inside, s.1.adds),

@@ -1,12 +1,13 @@
 -- "Bench values (P: proved)": the rows P3 to P10, each what the definitions give and what the paper says. P1 and P2 speak of Present State
 -- and join the list above this crate. Assumes nothing: these are definitions.
-use Rattle.std.specs.Prelude.{ℕ, List, [], ◌∷◌}
+use Rattle.std.specs.Prelude.{ℕ, List, [], ◌∷◌, Result}
 use Rattle.terms.specs.Counts.{bytes}
 use Rattle.terms.specs.Answers.{number_of}
+use Rattle.terms.specs.declared.Refusal.{Refusal}
 use Rattle.terms.specs.Bench.{Row}
 use Rattle.table.specs.Line.{length_of}
-use Rattle.table.specs.Survey.{survey_of}
-use Rattle.table.specs.declared.survey.Surveyed.{Surveyed}
+use Rattle.table.specs.Survey.{figures_of, survey_of}
+use Rattle.table.specs.declared.survey.Report.{Report}
 
 -- the worked example's memory, with another first byte or line address
 abbrev pub memory : ℕ → ℕ → List ℕ
@@ -14,8 +15,8 @@ memory first address =
     first ∷ 0 ∷ 8 ∷ 0 ∷ address ∷ 0 ∷ 0 ∷ 0 ∷ 0 ∷ 0 ∷ 0 ∷ 0 ∷ 0 ∷ 0 ∷ 0 ∷ 0 ∷ 0x11 ∷ 0x22 ∷ 0x33 ∷ 0x44 ∷ 0x55 ∷ 0x66 ∷ 0x77 ∷ 0x88 ∷ []
 
 -- answer, kind, 054h byte, lines, bytes, address
-abbrev pub numbers : Surveyed → List ℕ
-numbers s = number_of s.answer ∷ s.report.kind ∷ s.report.state ∷ s.report.lines ∷ s.report.bytes.0 ∷ s.report.after ∷ []
+abbrev pub numbers : Result Report Refusal → List ℕ
+numbers s = let f = figures_of s in number_of s ∷ f.kind ∷ f.state ∷ f.lines ∷ f.bytes ∷ f.after ∷ []
 
 -- a survey from 0 with limit 0
 abbrev pub surveyed : List ℕ → ℕ → List ℕ → Row

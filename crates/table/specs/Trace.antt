@@ -4,15 +4,12 @@ use Rattle.std.proofs.Math.Seq.{paste}
 use Rattle.terms.specs.Counts.{bytes, more, less}
 use Rattle.terms.specs.declared.ByteCount.{ByteCount}
 use Rattle.table.specs.Memory.{index_of}
-use Rattle.table.specs.Fetch.{stop_state, mismatch, fetch_of}
+use Rattle.table.specs.Fetch.{fetch_of}
+use Rattle.table.specs.declared.fetch.Failure.TheVariants as failure
+use Rattle.table.specs.declared.survey.Kind.{Kind}
+use Rattle.table.specs.declared.survey.Kind.TheVariants.{Well, Error, Limit}
 use Rattle.table.specs.declared.fetch.Fetched.{Fetched}
 use Rattle.table.specs.declared.fetch.Fetched.TheVariants.{Fault, Step, Data}
-
--- "kind (0 well, 1 error, 2 limit), the 054h byte"
-pub data Kind : Type 0 where
-  well : Kind
-  fault : (state : ℕ) → Kind
-  limit : Kind
 
 -- data that a line names: so many bytes from an address on
 pub record Area : Type 0 where
@@ -46,8 +43,8 @@ add_ring int t = record { kind = t.kind; lines = t.lines; named = t.named; rings
 
 -- "A line done with End stops the engine; bytes still owed then are an error in state 00 with Mismatch."
 abbrev pub finish_kind : ℕ → Kind
-finish_kind zero = well
-finish_kind (suc n) = fault (stop_state + mismatch)
+finish_kind zero = Well
+finish_kind (suc n) = Error failure.Owing
 
 -- after a line, with End or without: the table ends, or `rest` follows it from the next address
 unfoldable pub onward : (ℕ → ByteCount → Trace) → Bool → ℕ → ByteCount → Trace
@@ -56,13 +53,13 @@ onward rest false next owed = rest next owed
 
 -- after the fetch of a line; what a sound Tran line names is owed no longer
 unfoldable pub along : (ℕ → ByteCount → Trace) → ByteCount → Fetched → Trace
-along rest owed (Fault state next) = ends (fault state) next
+along rest owed (Fault f next) = ends (Error f) next
 along rest owed (Step next last int) = add_ring int (onward rest last next owed)
-along rest owed (Data next at n last int) = add_area at n.0 (add_ring int (onward rest last next (less owed n)))
+along rest owed (Data next h) = add_area h.at h.rest.0 (add_ring h.int (onward rest h.last next (less owed h.rest)))
 
 -- "each further line is followed with one line less allowed"
 unfoldable pub trace_of : List ℕ → ℕ → ℕ → ByteCount → Trace
-trace_of mem zero at owed = ends limit at
+trace_of mem zero at owed = ends Limit at
 trace_of mem (suc n) at owed = add_line at (along (λ next left. trace_of mem n next left) owed (fetch_of mem at owed))
 
 -- how many bytes areas name

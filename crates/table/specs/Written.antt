@@ -1,8 +1,8 @@
 -- "A line is also written, from its five flags, length and address." Assumes nothing: these are definitions.
-use Rattle.std.specs.Prelude.{ℕ, ◌+◌, ◌*◌, ◌/◌, ◌%◌, List, [], ◌∷◌, Bool, cond, ◌&&◌, length, leb, eqb}
+use Rattle.std.specs.Prelude.{ℕ, ◌+◌, ◌*◌, ◌/◌, ◌%◌, List, [], ◌∷◌, Bool, cond, ◌&&◌, length, leb, eqb, ⊤, Result, Ok, Err}
 use Rattle.terms.specs.Flag.{unit_of}
-use Rattle.terms.specs.declared.Answer.{Answer}
-use Rattle.terms.specs.declared.Answer.TheVariants.{Done, LineRefused}
+use Rattle.terms.specs.declared.Refusal.{Refusal}
+use Rattle.terms.specs.declared.Refusal.TheVariants.{LineRefused}
 use Rattle.table.specs.Line.{line_size}
 use Rattle.table.specs.declared.line.Flags.{Flags}
 use Rattle.table.specs.declared.line.Line.{Line}
@@ -28,6 +28,6 @@ line_of l =
 abbrev pub writable : Line → Bool
 writable l = leb 1 l.length.0 && (leb l.length.0 65536 && eqb (l.address % 4) 0)
 
--- the answer, and the room after it: 17 also for "room not 8 bytes", and then the room stays as it is
-abbrev pub write_of : List ℕ → Line → Answer × List ℕ
-write_of room l = cond (eqb (length room) line_size && writable l) (Done 0, line_of l) (LineRefused, room)
+-- the answer and the room after it: 17 also for "room not 8 bytes", and then the room stays as it is
+abbrev pub write_of : List ℕ → Line → Result ⊤ Refusal × List ℕ
+write_of room l = cond (eqb (length room) line_size && writable l) (Ok tt, line_of l) ((Err LineRefused), room)

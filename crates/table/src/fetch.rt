@@ -1,43 +1,52 @@
 // The fetch of one line: what it finds, and where the next line lies.
 ghost use Rattle.std.specs.Prelude.{◌≡◌, ◌≤◌, length};
 ghost use Rattle.table.specs.Memory.{memory_limit};
-ghost use Rattle.table.specs.Fetch.{step_on_of, data_of, tran_of, fetch_of};
+ghost use Rattle.table.specs.Fetch.{byte_of, step_on_of, hand_of, tran_of, fetch_of};
 
 use crate::line::{Act, SIZE, act_of, address_of, flags_of, length_of, line_at};
 use crate::memory::in_memory;
 use terms::ByteCount;
 
-// The states of 054h, and Mismatch beside them.
-pub const STOP: u8 = 0;
+// Why a table or a transfer fails, by the byte of 054h: the state (00 stop, 01 fetch, 11 move), and 4 where lengths do not
+// match.
+#[derive(Clone, Copy, PartialEq, Eq)]
+pub enum Failure {
+    // A line beyond memory, or with Valid 0.
+    Unsound = 1,
+    // The bytes of a Tran line reach past memory.
+    Beyond = 3,
+    // Bytes are still owed once the End line is done.
+    Owing = 4,
+    // A Tran line is longer than what is owed.
+    TooLong = 7,
+}
 
-pub const FETCH: u8 = 1;
+impl Failure {
+    // The byte of 054h.
+    pub fn byte(self) -> u8
+        ensures { result ≡ byte_of self }
+    {
+        self as u8
+    }
+}
 
-pub const MOVE: u8 = 3;
-
-pub const MISMATCH: u8 = 4;
+// A Tran line in hand: the bytes still to move, their address, End and Int.
+#[derive(Clone, Copy, PartialEq, Eq)]
+pub struct Hand {
+    pub rest: ByteCount,
+    pub at: u32,
+    pub last: bool,
+    pub int: bool,
+}
 
 // What a fetch finds; `next` is the address that 058h then holds.
 #[derive(Clone, Copy)]
 pub enum Fetched {
-    // An error, with its byte for 054h.
-    Fault {
-        state: u8,
-        next: u32,
-    },
+    Fault { failure: Failure, next: u32 },
     // A sound line that links or only steps on, and is done: whether it has End and Int.
-    Step {
-        next: u32,
-        last: bool,
-        int: bool,
-    },
-    // A sound Tran line: where its bytes lie, how many they are, End and Int.
-    Data {
-        next: u32,
-        at: u32,
-        count: ByteCount,
-        last: bool,
-        int: bool,
-    },
+    Step { next: u32, last: bool, int: bool },
+    // A sound Tran line, with all its bytes still to move.
+    Data { next: u32, hand: Hand },
 }
 
 fn step(line: &[u8], next: u32) -> Fetched
@@ -51,16 +60,13 @@ fn step(line: &[u8], next: u32) -> Fetched
     }
 }
 
-fn data(line: &[u8], next: u32) -> Fetched
-    ensures { result ≡ data_of line.now next }
+fn hand_of(line: &[u8]) -> Hand
+    ensures { result ≡ hand_of line.now }
 {
-    let at = address_of(line);
-    let count = length_of(line);
     let flags = flags_of(line);
-    Fetched::Data {
-        next,
-        at,
-        count,
+    Hand {
+        rest: length_of(line),
+        at: address_of(line),
         last: flags.end,
         int: flags.int,
     }
@@ -70,17 +76,20 @@ fn data(line: &[u8], next: u32) -> Fetched
 fn tran(line: &[u8], next: u32, size: usize, owed: ByteCount) -> Fetched
     ensures { result ≡ tran_of line.now next size owed }
 {
-    let count = length_of(line);
-    if owed.0 < count.0 {
+    let hand = hand_of(line);
+    if owed.0 < hand.rest.0 {
         return Fetched::Fault {
-            state: MOVE + MISMATCH,
+            failure: Failure::TooLong,
             next,
         };
     }
-    if in_memory(size, address_of(line), count.0) {
-        data(line, next)
+    if in_memory(size, hand.at, hand.rest.0) {
+        Fetched::Data { next, hand }
     } else {
-        Fetched::Fault { state: MOVE, next }
+        Fetched::Fault {
+            failure: Failure::Beyond,
+            next,
+        }
     }
 }
 
@@ -92,18 +101,16 @@ pub fn fetch(mem: &[u8], at: u32, owed: ByteCount) -> Fetched
 {
     let line = line_at(mem, at);
     let flags = flags_of(line);
-    if flags.valid {
-        let act = act_of(flags);
-        let next = at + SIZE;
-        match act {
-            Act::Tran => tran(line, next, mem.len(), owed),
-            Act::Link => step(line, address_of(line)),
-            Act::Other => step(line, next),
-        }
-    } else {
-        Fetched::Fault {
-            state: FETCH,
+    if !flags.valid {
+        return Fetched::Fault {
+            failure: Failure::Unsound,
             next: at,
-        }
+        };
+    }
+    let next = at + SIZE;
+    match act_of(flags) {
+        Act::Tran => tran(line, next, mem.len(), owed),
+        Act::Link => step(line, address_of(line)),
+        Act::Other => step(line, next),
     }
 }

@@ -10,7 +10,7 @@ use terms::ByteCount;
 pub const SIZE: u32 = 8;
 
 // The five flags of byte 0.
-#[derive(Clone, Copy)]
+#[derive(Clone, Copy, PartialEq, Eq)]
 pub struct Flags {
     pub valid: bool,
     pub end: bool,
@@ -20,7 +20,7 @@ pub struct Flags {
 }
 
 // What a line says: its flags, how many bytes it names, and an address.
-#[derive(Clone, Copy)]
+#[derive(Clone, Copy, PartialEq, Eq)]
 pub struct Line {
     pub flags: Flags,
     pub length: ByteCount,
@@ -28,7 +28,7 @@ pub struct Line {
 }
 
 // What a line asks for: bytes moved, a jump to another line, or only a step to the next.
-#[derive(Clone, Copy)]
+#[derive(Clone, Copy, PartialEq, Eq)]
 pub enum Act {
     Tran,
     Link,
@@ -65,9 +65,7 @@ fn half(line: &[u8], i: usize) -> u16
     requires { i < 7 }
     ensures { result ≡ half_of line.now i }
 {
-    let low = byte(line, i) as u16;
-    let high = byte(line, i + 1) as u16;
-    low + 256 * high
+    u16::from_le_bytes([byte(line, i), byte(line, i + 1)])
 }
 
 // How many bytes a line names: 0 means 65,536.
@@ -79,7 +77,7 @@ pub fn length_of(line: &[u8]) -> ByteCount
     if n == 0 {
         ByteCount(65536)
     } else {
-        ByteCount(n as u32)
+        ByteCount(u32::from(n))
     }
 }
 
@@ -88,8 +86,8 @@ pub fn length_of(line: &[u8]) -> ByteCount
 pub fn address_of(line: &[u8]) -> u32
     ensures { result ≡ address_of line.now }
 {
-    let low = half(line, 4) as u32;
-    let high = half(line, 6) as u32;
+    let low = u32::from(half(line, 4));
+    let high = u32::from(half(line, 6));
     (low + 65536 * high) / 4 * 4
 }
 
@@ -112,13 +110,10 @@ pub fn flags_of(line: &[u8]) -> Flags
 pub fn read_line(line: &[u8]) -> Line
     ensures { result ≡ read_of line.now }
 {
-    let flags = flags_of(line);
-    let length = length_of(line);
-    let address = address_of(line);
     Line {
-        flags,
-        length,
-        address,
+        flags: flags_of(line),
+        length: length_of(line),
+        address: address_of(line),
     }
 }
 
@@ -126,9 +121,9 @@ pub fn read_line(line: &[u8]) -> Line
 pub fn act_of(f: Flags) -> Act
     ensures { result ≡ act_of f }
 {
-    if f.act2 {
-        if f.act1 { Act::Link } else { Act::Tran }
-    } else {
-        Act::Other
+    match (f.act2, f.act1) {
+        (true, false) => Act::Tran,
+        (true, true) => Act::Link,
+        (false, _) => Act::Other,
     }
 }

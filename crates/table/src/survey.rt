@@ -2,11 +2,11 @@
 ghost use Rattle.std.specs.Prelude.{◌≡◌, ◌+◌, ◌<◌, ◌≤◌, length};
 ghost use Rattle.table.specs.Memory.{memory_limit};
 ghost use Rattle.table.specs.Trace.{finish_kind, trace_of};
-ghost use Rattle.table.specs.Survey.{report_with, report_as, report_from, allowed_of, lines_most, refused_as, survey_of, boot_of};
+ghost use Rattle.table.specs.Survey.{report_as, report_of, behind_of, allowed_of, lines_most, survey_of, boot_of};
 
-use crate::fetch::{Fetched, MISMATCH, STOP, fetch};
+use crate::fetch::{Failure, Fetched, fetch};
 use crate::memory::too_large;
-use terms::{Answer, ByteCount};
+use terms::{ByteCount, Refusal};
 
 // More lines than this are refused.
 pub const LINES: u32 = 4096;
@@ -14,90 +14,87 @@ pub const LINES: u32 = 4096;
 // What a limit of 0 means.
 pub const DEFAULT: u32 = 64;
 
-// What a survey finds: kind 0 well, 1 error, 2 limit; the 054h byte; lines tried; bytes named; the address after.
+// How a table ends: well, in an error, or not within the lines allowed.
+#[derive(Clone, Copy, PartialEq, Eq)]
+pub enum Kind {
+    Well,
+    Error(Failure),
+    Limit,
+}
+
+// What a survey finds: how the table ends, the lines tried, the bytes named, and the address after.
 #[derive(Clone, Copy)]
 pub struct Report {
-    pub kind: u8,
-    pub state: u8,
+    pub kind: Kind,
     pub lines: u32,
     pub bytes: ByteCount,
     pub after: u32,
 }
 
-#[derive(Clone, Copy)]
-pub struct Surveyed {
-    pub answer: Answer,
-    pub report: Report,
+impl Report {
+    // What it reports, behind one more line that names so many bytes.
+    fn behind(self, named: ByteCount) -> Report
+        requires { (self.lines + 1 < 4294967296) × (named.0 + self.bytes.0 < 4294967296) }
+        ensures { result ≡ behind_of named self }
+    {
+        Report {
+            lines: self.lines + 1,
+            bytes: ByteCount(named.0 + self.bytes.0),
+            ..self
+        }
+    }
 }
 
-#[derive(Clone, Copy)]
-pub struct Booted {
-    pub answer: Answer,
-    pub yes: bool,
-}
-
-fn report_with(kind: u8, state: u8, lines: u32, named: ByteCount, after: u32) -> Report
-    ensures { result ≡ report_with kind state lines named after }
+// The report of an End line that is done: well where nothing is owed any more.
+fn ended(owed: ByteCount, bytes: ByteCount, after: u32) -> Report
+    ensures { result ≡ report_as (finish_kind owed.0) 1 bytes after }
 {
+    let kind = if owed.0 == 0 {
+        Kind::Well
+    } else {
+        Kind::Error(Failure::Owing)
+    };
     Report {
         kind,
-        state,
-        lines,
-        bytes: named,
+        lines: 1,
+        bytes,
         after,
     }
 }
 
-// The report of a table whose End line is done: well where nothing is owed any more.
-fn ended(owed: ByteCount, lines: u32, named: ByteCount, after: u32) -> Report
-    ensures { result ≡ report_as (finish_kind owed.0) lines named after }
-{
-    if owed.0 == 0 {
-        report_with(0, 0, lines, named, after)
-    } else {
-        report_with(1, STOP + MISMATCH, lines, named, after)
-    }
-}
-
-// Follows the table from an address with so many lines allowed; `lines` and `named` are what was met before it. `survey`
-// refuses too much memory and too many lines, and begins at no line and no byte.
-fn follow(
-    mem: &[u8],
-    at: u32,
-    owed: ByteCount,
-    allowed: u32,
-    lines: u32,
-    named: ByteCount,
-) -> Report
-    requires { (length mem.now ≤ memory_limit) × (lines + allowed ≤ lines_most) × (named.0 + owed.0 < 4294967296) }
-    ensures { result ≡ report_from lines named (trace_of mem.now allowed at owed) }
+// Follows the table from an address, with so many lines allowed. `survey` refuses too much memory and too many lines.
+fn follow(mem: &[u8], at: u32, owed: ByteCount, allowed: u32) -> Report
+    requires { (length mem.now ≤ memory_limit) × (allowed ≤ lines_most) }
+    ensures { result ≡ report_of (trace_of mem.now allowed at owed) }
 {
     if allowed == 0 {
-        return report_with(2, 0, lines, named, at);
+        return Report {
+            kind: Kind::Limit,
+            lines: 0,
+            bytes: ByteCount(0),
+            after: at,
+        };
     }
-    let got = fetch(mem, at, owed);
-    match got {
-        Fetched::Fault { state, next } => report_with(1, state, lines + 1, named, next),
-        Fetched::Step { next, last, int: _ } => {
+    match fetch(mem, at, owed) {
+        Fetched::Fault { failure, next } => Report {
+            kind: Kind::Error(failure),
+            lines: 1,
+            bytes: ByteCount(0),
+            after: next,
+        },
+        Fetched::Step { next, last, .. } => {
             if last {
-                ended(owed, lines + 1, named, next)
+                ended(owed, ByteCount(0), next)
             } else {
-                follow(mem, next, owed, allowed - 1, lines + 1, named)
+                follow(mem, next, owed, allowed - 1).behind(ByteCount(0))
             }
         }
-        Fetched::Data {
-            next,
-            at: _,
-            count,
-            last,
-            int: _,
-        } => {
-            let left = owed.less(count);
-            let met = ByteCount(named.0 + count.0);
-            if last {
-                ended(left, lines + 1, met, next)
+        Fetched::Data { next, hand } => {
+            let left = owed.less(hand.rest);
+            if hand.last {
+                ended(left, hand.rest, next)
             } else {
-                follow(mem, next, left, allowed - 1, lines + 1, met)
+                follow(mem, next, left, allowed - 1).behind(hand.rest)
             }
         }
     }
@@ -111,49 +108,23 @@ fn lines_allowed(limit: u32) -> u32
     if limit == 0 { DEFAULT } else { limit }
 }
 
-fn refused(answer: Answer) -> Surveyed
-    ensures { result ≡ refused_as answer }
-{
-    let report = report_with(0, 0, 0, ByteCount(0), 0);
-    Surveyed { answer, report }
-}
-
 // Surveys the table at a start, for so many bytes owed.
-pub fn survey(mem: &[u8], start: u32, owed: ByteCount, limit: u32) -> Surveyed
+pub fn survey(mem: &[u8], start: u32, owed: ByteCount, limit: u32) -> Result<Report, Refusal>
     ensures { result ≡ survey_of mem.now start owed limit }
 {
     if too_large(mem) {
-        return refused(Answer::MemoryTooLarge);
+        return Err(Refusal::MemoryTooLarge);
     }
     if LINES < limit {
-        return refused(Answer::LimitTooHigh);
+        return Err(Refusal::LimitTooHigh);
     }
-    let report = follow(
-        mem,
-        start / 4 * 4,
-        owed,
-        lines_allowed(limit),
-        0,
-        ByteCount(0),
-    );
-    Surveyed {
-        answer: Answer::Done(0),
-        report,
-    }
+    Ok(follow(mem, start / 4 * 4, owed, lines_allowed(limit)))
 }
 
 // Says yes exactly where a survey with limit 0 goes well.
-pub fn boot_check(mem: &[u8], start: u32, owed: ByteCount) -> Booted
+pub fn boot_check(mem: &[u8], start: u32, owed: ByteCount) -> Result<bool, Refusal>
     ensures { result ≡ boot_of mem.now start owed }
 {
-    let got = survey(mem, start, owed, 0);
-    let answer = got.answer;
-    if answer.number() == 0 {
-        Booted {
-            answer,
-            yes: got.report.kind == 0,
-        }
-    } else {
-        Booted { answer, yes: false }
-    }
+    let report = survey(mem, start, owed, 0)?;
+    Ok(matches!(report.kind, Kind::Well))
 }

@@ -3,14 +3,14 @@
 
 ghost use Rattle.std.specs.Prelude.{◌≡◌};
 ghost use Rattle.terms.specs.Counts.{times, fewer, less, least};
-ghost use Rattle.terms.specs.Answers.{number_of, value_of};
+ghost use Rattle.terms.specs.Answers.{row_of, number_of, value_of};
 
 // A count of blocks. Block Count, 006h, has 16 bits, and no transfer has more blocks.
-#[derive(Clone, Copy)]
+#[derive(Clone, Copy, PartialEq, Eq)]
 pub struct BlockCount(pub u16);
 
 // A count of bytes.
-#[derive(Clone, Copy)]
+#[derive(Clone, Copy, PartialEq, Eq)]
 pub struct ByteCount(pub u32);
 
 impl BlockCount {
@@ -18,18 +18,14 @@ impl BlockCount {
     pub fn times(self, size: u16) -> ByteCount
         ensures { result ≡ times self size }
     {
-        ByteCount(self.0 as u32 * size as u32)
+        ByteCount(u32::from(self.0) * u32::from(size))
     }
 
     // One block less; of none, none.
     pub fn fewer(self) -> BlockCount
         ensures { result ≡ fewer self }
     {
-        if self.0 == 0 {
-            BlockCount(0)
-        } else {
-            BlockCount(self.0 - 1)
-        }
+        BlockCount(self.0.saturating_sub(1))
     }
 }
 
@@ -38,83 +34,61 @@ impl ByteCount {
     pub fn less(self, n: ByteCount) -> ByteCount
         ensures { result ≡ less self n }
     {
-        if self.0 < n.0 {
-            ByteCount(0)
-        } else {
-            ByteCount(self.0 - n.0)
-        }
+        ByteCount(self.0.saturating_sub(n.0))
     }
 
     // The smaller of two counts.
     pub fn least(self, n: ByteCount) -> ByteCount
         ensures { result ≡ least self n }
     {
-        if self.0 < n.0 { self } else { n }
+        ByteCount(self.0.min(n.0))
     }
 }
 
-// What a step answers: one name for each row of the paper's table, 1 to 12 and 17. The numbers 13 to 16 belong to requests
-// that are not built; a name for one of them goes between `LimitTooHigh` and `LineRefused`.
-#[derive(Clone, Copy)]
-pub enum Answer {
-    Done(u32),
-    NoPlace,
-    DatInhibited,
-    CommandInhibited,
-    DatInUse,
-    Unpowered,
-    NotCarried,
-    OutOfTurn,
-    WrongLength,
-    NotYet,
-    NoTransfer,
-    MemoryTooLarge,
-    LimitTooHigh,
-    LineRefused,
+// Why a step is refused: one name for each row of the paper's table, 1 to 12 and 17. The numbers 13 to 16 belong to
+// requests that are not built.
+#[derive(Clone, Copy, Debug, PartialEq, Eq)]
+pub enum Refusal {
+    NoPlace = 1,
+    DatInhibited = 2,
+    CommandInhibited = 3,
+    DatInUse = 4,
+    Unpowered = 5,
+    NotCarried = 6,
+    OutOfTurn = 7,
+    WrongLength = 8,
+    NotYet = 9,
+    NoTransfer = 10,
+    MemoryTooLarge = 11,
+    LimitTooHigh = 12,
+    LineRefused = 17,
 }
 
-impl Answer {
+// What a step answers: its value, or why it is refused.
+pub type Answer = Result<u32, Refusal>;
+
+impl Refusal {
     // The row of the table.
-    pub fn number(self) -> u8
-        ensures { result ≡ number_of self }
+    pub fn row(self) -> u8
+        ensures { result ≡ row_of self }
     {
-        match self {
-            Answer::Done(_) => 0,
-            Answer::NoPlace => 1,
-            Answer::DatInhibited => 2,
-            Answer::CommandInhibited => 3,
-            Answer::DatInUse => 4,
-            Answer::Unpowered => 5,
-            Answer::NotCarried => 6,
-            Answer::OutOfTurn => 7,
-            Answer::WrongLength => 8,
-            Answer::NotYet => 9,
-            Answer::NoTransfer => 10,
-            Answer::MemoryTooLarge => 11,
-            Answer::LimitTooHigh => 12,
-            Answer::LineRefused => 17,
-        }
+        self as u8
     }
+}
 
-    // What comes with it: 0 with every refusal.
-    pub fn value(self) -> u32
-        ensures { result ≡ value_of self }
-    {
-        match self {
-            Answer::Done(v) => v,
-            Answer::NoPlace => 0,
-            Answer::DatInhibited => 0,
-            Answer::CommandInhibited => 0,
-            Answer::DatInUse => 0,
-            Answer::Unpowered => 0,
-            Answer::NotCarried => 0,
-            Answer::OutOfTurn => 0,
-            Answer::WrongLength => 0,
-            Answer::NotYet => 0,
-            Answer::NoTransfer => 0,
-            Answer::MemoryTooLarge => 0,
-            Answer::LimitTooHigh => 0,
-            Answer::LineRefused => 0,
-        }
+// The number of an answer: the row of its refusal, 0 where it is done.
+pub fn number<T: Copy>(answer: Result<T, Refusal>) -> u8
+    ensures { result ≡ number_of answer }
+{
+    match answer {
+        Ok(_) => 0,
+        Err(refusal) => refusal.row(),
     }
+}
+
+// The value of an answer: 0 with every refusal.
+pub fn value(answer: Answer) -> u32
+    ensures { result ≡ value_of answer }
+{
+    answer.unwrap_or(0)
 }

@@ -3,7 +3,6 @@
 #![tactic(auto)]
 
 mod example;
-mod say;
 mod slots;
 mod tables;
 
