@@ -45,7 +45,7 @@ or_false true b e = absurd (false≢true (sym e))
 or_false false b e = (refl, e)
 
 ordinary_stays : (q : Request) (d : Dat) → uses_dat q ≡ false → ordinary_dat q d ≡ d
-ordinary_stays q d n = let h = or_false q.«data» (is_busy q.kind) n in rw (h.0, h.1)
+ordinary_stays q d n = let h = or_false q.«data» (is_busy q.waiting.kind) n in rw (h.0, h.1)
 
 way_used_lem : (way : Way) → in_use (use_of (dat.Halted way)) ≡ true
 way_used_lem Read = refl

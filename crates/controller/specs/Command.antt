@@ -24,6 +24,8 @@ use Rattle.controller.specs.declared.slot.Kind.{Kind}
 use Rattle.controller.specs.declared.slot.Kind.TheVariants.{Silent, Long, Short, ShortBusy}
 use Rattle.controller.specs.declared.slot.Command.TheVariants.{Waits}
 use Rattle.controller.specs.declared.slot.Slot.{Slot}
+use Rattle.controller.specs.declared.command.Class.{Class}
+use Rattle.controller.specs.declared.command.Class.TheVariants as class
 use Rattle.controller.specs.declared.command.Request.{Request}
 
 -- the response types 00b, 01b, 10b and 11b
@@ -42,6 +44,16 @@ is_busy Long = false
 is_busy Short = false
 is_busy ShortBusy = true
 
+-- the command types 00b, 01b, 10b and 11b
+abbrev pub class_of : ℕ → Class
+class_of n = cond (eqb n 0) class.Normal (cond (eqb n 1) class.Suspend (cond (eqb n 2) class.Resume class.Abort))
+
+abbrev pub class_number : Class → ℕ
+class_number class.Normal = 0
+class_number class.Suspend = 1
+class_number class.Resume = 2
+class_number class.Abort = 3
+
 -- is the bit of this weight 1?
 abbrev pub on : ℕ → ℕ → Bool
 on n weight = eqb (n / weight % 2) 1
@@ -51,28 +63,26 @@ on n weight = eqb (n / weight % 2) 1
 unfoldable pub request_of : Registers → Request
 request_of r =
     record {
-      kind = kind_of (command_of r % 4);
-      crc = on (command_of r) 8;
-      index = on (command_of r) 16;
+      waiting = record { kind = kind_of (command_of r % 4); crc = on (command_of r) 8; index = on (command_of r) 16 };
       «data» = on (command_of r) 32;
-      class = command_of r / 64 % 4;
+      class = class_of (command_of r / 64 % 4);
       dma = eqb (mode_of r % 2) 1;
       counts = on (mode_of r) 2;
       auto = on (mode_of r) 4;
       reads = on (mode_of r) 16;
       multi = on (mode_of r) 32;
-      select = dma_select r;
+      adma = eqb (dma_select r) 2;
       size = block_size r;
       count = block_count r;
     }
 
 -- the command type 11b
 abbrev pub is_abort : Request → Bool
-is_abort q = eqb q.class 3
+is_abort q = eqb (class_number q.class) 3
 
 -- "with data or response type 11b"
 abbrev pub uses_dat : Request → Bool
-uses_dat q = q.«data» || is_busy q.kind
+uses_dat q = q.«data» || is_busy q.waiting.kind
 
 -- "block size ... over 512"
 abbrev pub largest_block : ℕ
@@ -82,12 +92,12 @@ largest_block = 512
 -- Block Count Enable 0 or count 0"
 abbrev pub unfit_data : Request → Bool
 unfit_data q =
-    not (is_short q.kind) || not q.dma || not (eqb q.select 2) || q.auto || eqb q.size 0 || ltb largest_block q.size
+    not (is_short q.waiting.kind) || not q.dma || not q.adma || q.auto || eqb q.size 0 || ltb largest_block q.size
     || q.multi && (not q.counts || eqb q.count.0 0)
 
 -- 6: "command type 01b or 10b; Abort with data; data with any of" these
 abbrev pub not_carried : Request → Bool
-not_carried q = eqb q.class 1 || eqb q.class 2 || q.«data» && (is_abort q || unfit_data q)
+not_carried q = eqb (class_number q.class) 1 || eqb (class_number q.class) 2 || q.«data» && (is_abort q || unfit_data q)
 
 -- "B is 1 without Multi ...; with Multi B is Block Count"
 abbrev pub blocks_asked : Request → BlockCount
@@ -98,7 +108,7 @@ way_asked q = cond q.reads Read Write
 
 -- "Issuing sets ... the DAT side for data or response type 11b."
 abbrev pub ordinary_dat : Request → Dat → Dat
-ordinary_dat q d = cond q.«data» (issued (way_asked q) q.multi q.size (blocks_asked q)) (cond (is_busy q.kind) (Busy false) d)
+ordinary_dat q d = cond q.«data» (issued (way_asked q) q.multi q.size (blocks_asked q)) (cond (is_busy q.waiting.kind) (Busy false) d)
 
 -- "Abort halts any DAT use and then has no busy of its own; with none, it is an ordinary command."
 abbrev pub dat_issued : Request → Dat → Dat
@@ -113,7 +123,7 @@ judge_of s q powered =
 
 -- "Issuing sets bit 0 of Present State, and the DAT side"; "A command keeps the settings it was issued with."
 abbrev pub issue_of : Slot → Registers → Request → Slot
-issue_of s r q = with_sides s r (Waits (record { kind = q.kind; crc = q.crc; index = q.index })) (dat_issued q s.dat)
+issue_of s r q = with_sides s r (Waits q.waiting) (dat_issued q s.dat)
 
 -- 00Ch to 00Fh as they would stand: "sets Transfer Mode first; if DAT is inhibited the mode half keeps its old value and the command is judged by that"
 abbrev pub would_be : Slot → Edit → Registers

@@ -12,7 +12,7 @@ use registers::interrupt::Event;
 use terms::Refusal;
 
 // How a response can fail.
-#[derive(Clone, Copy, PartialEq, Eq)]
+#[derive(Clone, Copy)]
 pub enum ResponseError {
     Timeout = 1,
     Crc = 2,

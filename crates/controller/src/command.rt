@@ -1,7 +1,7 @@
 // A command: what it asks for, whether it is refused, and what issuing it does.
 ghost use Rattle.std.specs.Prelude.{◌≡◌};
 ghost use Rattle.controller.specs.Slot.{done_of};
-ghost use Rattle.controller.specs.Command.{request_of, is_abort, uses_dat, unfit_data, not_carried, blocks_asked, way_asked, ordinary_dat, dat_issued, judge_of, issue_of, command_step};
+ghost use Rattle.controller.specs.Command.{class_of, request_of, is_abort, uses_dat, unfit_data, not_carried, blocks_asked, way_asked, ordinary_dat, dat_issued, judge_of, issue_of, command_step};
 
 use crate::slot::{Command, Done, Kind, Slot, Waiting, halted_dat, is_occupied, use_of};
 use engine::transfer::{Dat, Stage, Transfer, Way};
@@ -13,20 +13,41 @@ use terms::{Answer, BlockCount, ByteCount, Refusal};
 // The largest block, in bytes.
 pub const LARGEST: u16 = 512;
 
+// The command types, 00Eh bits 7-6: 00b, 01b, 10b and 11b.
+#[derive(Clone, Copy, PartialEq, Eq)]
+pub enum Class {
+    Normal = 0,
+    Suspend = 1,
+    Resume = 2,
+    Abort = 3,
+}
+
+impl From<u8> for Class {
+    ghost from_gives = { λ n class. class ≡ class_of n };
+
+    // The command type by its number.
+    fn from(n: u8) -> Class {
+        match n {
+            0 => Class::Normal,
+            1 => Class::Suspend,
+            2 => Class::Resume,
+            _ => Class::Abort,
+        }
+    }
+}
+
 // What a command asks for, by Command, Transfer Mode, Block Size, Block Count and DMA Select as they would stand.
 #[derive(Clone, Copy)]
 pub struct Request {
-    pub kind: Kind,
-    pub crc: bool,
-    pub index: bool,
+    pub waiting: Waiting,
     pub data: bool,
-    pub class: u32,
+    pub class: Class,
     pub dma: bool,
     pub counts: bool,
     pub auto: bool,
     pub reads: bool,
     pub multi: bool,
-    pub select: u32,
+    pub adma: bool,
     pub size: u16,
     pub count: BlockCount,
 }
@@ -39,17 +60,19 @@ fn request_of(r: Registers) -> Request
     let order = r.command();
     let mode = r.mode();
     Request {
-        kind: Kind::from((order % 4) as u8),
-        crc: order / 8 % 2 == 1,
-        index: order / 16 % 2 == 1,
+        waiting: Waiting {
+            kind: Kind::from((order % 4) as u8),
+            crc: order / 8 % 2 == 1,
+            index: order / 16 % 2 == 1,
+        },
         data: order / 32 % 2 == 1,
-        class: order / 64 % 4,
+        class: Class::from((order / 64 % 4) as u8),
         dma: mode % 2 == 1,
         counts: mode / 2 % 2 == 1,
         auto: mode / 4 % 2 == 1,
         reads: mode / 16 % 2 == 1,
         multi: mode / 32 % 2 == 1,
-        select: r.dma_select(),
+        adma: r.dma_select() == 2,
         size: r.block_size(),
         count: r.block_count(),
     }
@@ -59,23 +82,23 @@ impl Request {
     fn is_abort(self) -> bool
         ensures { result ≡ is_abort self }
     {
-        self.class == 3
+        self.class == Class::Abort
     }
 
     // With data, or with the busy of type 11b.
     fn uses_dat(self) -> bool
         ensures { result ≡ uses_dat self }
     {
-        self.data || self.kind == Kind::ShortBusy
+        self.data || self.waiting.kind == Kind::ShortBusy
     }
 
     // A setting of a data command that is not carried.
     fn unfit_data(self) -> bool
         ensures { result ≡ unfit_data self }
     {
-        self.kind != Kind::Short
+        self.waiting.kind != Kind::Short
             || !self.dma
-            || self.select != 2
+            || !self.adma
             || self.auto
             || self.size == 0
             || LARGEST < self.size
@@ -86,7 +109,8 @@ impl Request {
     fn not_carried(self) -> bool
         ensures { result ≡ not_carried self }
     {
-        self.class == 1 || self.class == 2 || self.data && (self.is_abort() || self.unfit_data())
+        matches!(self.class, Class::Suspend | Class::Resume)
+            || self.data && (self.is_abort() || self.unfit_data())
     }
 
     // B: 1 without Multi, Block Count with it.
@@ -122,7 +146,7 @@ impl Request {
                 held: ByteCount(0),
                 stage: Stage::Fetching,
             })
-        } else if self.kind == Kind::ShortBusy {
+        } else if self.waiting.kind == Kind::ShortBusy {
             Dat::Busy { answered: false }
         } else {
             dat
@@ -167,11 +191,7 @@ impl Slot {
     {
         Slot {
             registers: r,
-            command: Command::Waits(Waiting {
-                kind: q.kind,
-                crc: q.crc,
-                index: q.index,
-            }),
+            command: Command::Waits(q.waiting),
             dat: q.dat_issued(self.dat),
             ..self
         }

@@ -1,6 +1,7 @@
 -- What the proofs of several functions use, and the theorems over the definitions.
 pub mod Names
 pub mod Settled
+pub mod Left
 pub mod Lent
 pub mod Exactly
 pub mod Refused

@@ -35,7 +35,7 @@ impl Transfer {
         ensures { result ≡ may_give self room }
     {
         let held = self.content(room);
-        matches!(self.way, Way::Read) && self.answered && held.0 == 0 && 0 < self.left.0
+        self.way == Way::Read && self.answered && held.0 == 0 && 0 < self.left.0
     }
 
     // May the card take a block: a write, the buffer full?
@@ -44,7 +44,7 @@ impl Transfer {
         ensures { result ≡ may_take self room }
     {
         let held = self.content(room);
-        matches!(self.way, Way::Write) && held.0 == self.block_bytes(room).0
+        self.way == Way::Write && held == self.block_bytes(room)
     }
 
     // The block fills the buffer; `give` has looked at its length.
@@ -119,19 +119,19 @@ impl Dat {
     pub fn given(self, buffer: &mut [u8], bytes: &[u8]) -> Result<Pass, Refusal>
         ensures { (result, buffer.new) ≡ passed_with (given_of self buffer.old bytes.now) }
     {
-        match self {
-            Dat::Runs(t) => t.give(buffer, bytes),
-            Dat::Free | Dat::Busy { .. } | Dat::Stuck | Dat::Halted(_) => Err(Refusal::OutOfTurn),
-        }
+        let Dat::Runs(t) = self else {
+            return Err(Refusal::OutOfTurn);
+        };
+        t.give(buffer, bytes)
     }
 
     // The card takes a block, into the first bytes of the lent room. Refused, the DAT side and the room stay as they are.
     pub fn taken(self, buffer: &[u8], room: &mut [u8]) -> Result<Pass, Refusal>
         ensures { (result, room.new) ≡ passed_with (taken_of self buffer.now room.old) }
     {
-        match self {
-            Dat::Runs(t) => t.take(buffer, room),
-            Dat::Free | Dat::Busy { .. } | Dat::Stuck | Dat::Halted(_) => Err(Refusal::OutOfTurn),
-        }
+        let Dat::Runs(t) = self else {
+            return Err(Refusal::OutOfTurn);
+        };
+        t.take(buffer, room)
     }
 }

@@ -6,23 +6,22 @@ ghost use Rattle.engine.specs.Buffer.{block_of, held_of, ready_of};
 use crate::transfer::{Transfer, Way};
 use terms::ByteCount;
 
-// Of a buffer with room for so many bytes:
 impl Transfer {
-    // how many of them are a block, and no more than there are;
+    // The bytes of the buffer that are a block: no more than are lent for it.
     pub(crate) fn block_bytes(self, room: usize) -> ByteCount
         ensures { result ≡ block_of self.size room }
     {
         ByteCount(usize::from(self.size).min(room) as u32)
     }
 
-    // how many bytes it holds;
+    // The bytes that a buffer of so many holds.
     pub(crate) fn content(self, room: usize) -> ByteCount
         ensures { result ≡ held_of self.size room self.held }
     {
         self.held.least(self.block_bytes(room))
     }
 
-    // and how many a move may take: its room (write) or content (read).
+    // The bytes that a move may take: the buffer's room (write) or its content (read).
     pub(crate) fn ready(self, room: usize) -> ByteCount
         ensures { result ≡ ready_of self.way self.size room self.held }
     {
@@ -38,7 +37,7 @@ pub(crate) fn put(room: &mut [u8], at: usize, part: &[u8])
     requires { at + length part.now ≤ length room.old }
     ensures { room.new ≡ paste room.old at part.now (length part.now) }
 {
-    for (i, b) in part.iter().enumerate() {
-        room[at + i] = *b;
+    for (place, byte) in (at..).zip(part) {
+        room[place] = *byte;
     }
 }

@@ -8,8 +8,8 @@ use terms::{BlockCount, ByteCount};
 // The way of a transfer: from the card to memory, or from memory to the card.
 #[derive(Clone, Copy, PartialEq, Eq)]
 pub enum Way {
-    Read,
-    Write,
+    Read = 0,
+    Write = 1,
 }
 
 // How the engine of a running transfer stands: no line in hand, a Tran line in hand, or stopped, with End met and a block
@@ -35,8 +35,8 @@ pub struct Transfer {
     pub stage: Stage,
 }
 
-// The DAT side: free, busy by a command of response type 11b (awaited or in), in a running transfer, or halted, until a reset, in a busy or in a
-// transfer of which only the way is still shown.
+// The DAT side: free, busy by a command of response type 11b (awaited or in), in a running transfer, or halted, until a
+// reset, in a busy or in a transfer of which only the way is still shown.
 #[derive(Clone, Copy)]
 pub enum Dat {
     Free,

@@ -39,7 +39,7 @@ fn seen_int(seen: Fetched) -> bool
     matches!(seen, Fetched::Step { int: true, .. })
 }
 
-// Is a line with Int done, now that so much of it is still to move?
+// Is the line in hand done, with Int?
 #[tactic(auto, unfolding(crate::specs::Turn::done_rest))]
 fn done_int(hand: Hand) -> bool
     ensures { result ≡ done_int hand.rest hand.int }
@@ -47,7 +47,17 @@ fn done_int(hand: Hand) -> bool
     hand.rest.0 == 0 && hand.int
 }
 
+// What a turn is lent: the one-block buffer, and memory, no more than a step takes.
+#[derive(Drop)]
+struct Lent<'a> {
+    buffer: &'a mut [u8],
+    mem: &'a mut [u8],
+    ghost small: { length mem.now ≤ memory_limit },
+}
+
 impl Transfer {
+    ghost use Rattle.engine.specs.Lent.{SameLent};
+
     // Where a fetch leaves the transfer, with the buffer holding so many bytes.
     #[tactic(auto, unfolding(crate::specs::Turn::seen))]
     fn seen_next(self, seen: Fetched, held: ByteCount) -> Next
@@ -60,7 +70,7 @@ impl Transfer {
         }
     }
 
-    // Where a move leaves the transfer, with so much of the line still to move.
+    // Where a move leaves the transfer, with what is still in hand of the line.
     #[tactic(auto, unfolding(crate::specs::Turn::further))]
     fn onward(self, hand: Hand) -> Next
         ensures { result ≡ onward_of hand self.owed self.left self.held }
@@ -72,7 +82,7 @@ impl Transfer {
         }
     }
 
-    // A turn that is done, and left the counters so.
+    // A turn that is done; `self` has the counters after it.
     fn turned(self, count: ByteCount, table: u32, int: bool, next: Next) -> Turn
         ensures { Ok result ≡ turn_given (turned_as self self.owed self.held count table int next) }
     {
@@ -107,18 +117,12 @@ impl Transfer {
     }
 
     // Bytes of the line in hand are moved.
-    fn moved(
-        self,
-        table: u32,
-        hand: Hand,
-        count: ByteCount,
-        buffer: &mut [u8],
-        mem: &mut [u8],
-    ) -> Turn
-        requires { (length mem.old ≤ memory_limit) × (hand.at + count.0 ≤ length mem.old) × (count.0 ≤ (ready_of self.way self.size (length buffer.old) self.held).0) }
-        ensures { (Ok result, buffer.new, mem.new) ≡ turned_with (moved_of self table hand count (carry_of self.way self buffer.old mem.old hand.at count)) }
+    fn moved(self, table: u32, hand: Hand, count: ByteCount, lent: &mut Lent<'_>) -> Turn
+        requires { (hand.at + count.0 ≤ length lent.old.mem.now) × (count.0 ≤ (ready_of self.way self.size (length lent.old.buffer.now) self.held).0) }
+        ensures same_lent { SameLent lent.old lent.new }
+        ensures moved { (Ok result, lent.new.buffer.now, lent.new.mem.now) ≡ turned_with (moved_of self table hand count (carry_of self.way self lent.old.buffer.now lent.old.mem.now hand.at count)) }
     {
-        let held = self.carry(hand.at as usize, count, buffer, mem);
+        let held = self.carry(hand.at as usize, count, lent.buffer, lent.mem);
         let owed = self.owed.less(count);
         let still = Hand {
             rest: hand.rest.less(count),
@@ -129,25 +133,19 @@ impl Transfer {
         t.turned(count, table, done_int(still), t.onward(still))
     }
 
-    // A turn with a line in hand. `turn` has refused too much memory.
+    // A turn with a line in hand.
     #[tactic(auto, unfolding(crate::specs::Turn::moving_of))]
-    fn moving(
-        self,
-        table: u32,
-        hand: Hand,
-        buffer: &mut [u8],
-        mem: &mut [u8],
-    ) -> Result<Turn, Refusal>
-        requires { length mem.old ≤ memory_limit }
-        ensures { (result, buffer.new, mem.new) ≡ turned_with (moving_of self table hand buffer.old mem.old) }
+    fn moving(self, table: u32, hand: Hand, lent: &mut Lent<'_>) -> Result<Turn, Refusal>
+        ensures same_lent { SameLent lent.old lent.new }
+        ensures moving { (result, lent.new.buffer.now, lent.new.mem.now) ≡ turned_with (moving_of self table hand lent.old.buffer.now lent.old.mem.now) }
     {
-        let open = self.ready(buffer.len());
+        let open = self.ready(lent.buffer.len());
         if open.0 == 0 {
             return Err(Refusal::NotYet);
         }
         let count = hand.rest.least(open);
-        if in_memory(mem.len(), hand.at, count.0) {
-            Ok(self.moved(table, hand, count, buffer, mem))
+        if in_memory(lent.mem.len(), hand.at, count.0) {
+            Ok(self.moved(table, hand, count, lent))
         } else {
             let failed = Next::Fail(Failure::Beyond);
             Ok(self.turned(ByteCount(0), table, false, failed))
@@ -155,27 +153,26 @@ impl Transfer {
     }
 
     // A turn with no line in hand.
-    fn fetching(self, table: u32, room: usize, mem: &[u8]) -> Turn
-        requires { length mem.now ≤ memory_limit }
-        ensures { Ok result ≡ turn_given (fetched_of self room (fetch_of mem.now table self.owed)) }
+    fn fetching(self, table: u32, lent: &Lent<'_>) -> Turn
+        ensures { Ok result ≡ turn_given (fetched_of self (length lent.now.buffer.now) (fetch_of lent.now.mem.now table self.owed)) }
     {
-        let held = self.content(room);
-        let seen = table::fetch::fetch(mem, table, self.owed);
+        let held = self.content(lent.buffer.len());
+        let seen = table::fetch::fetch(lent.mem, table, self.owed);
         let next = self.seen_next(seen, held);
         self.turned(ByteCount(0), seen_table(seen), seen_int(seen), next)
     }
 
     // A turn of a running transfer: stopped, awaiting its response, or one that does something.
     #[tactic(auto, unfolding(crate::specs::Turn::running_of))]
-    fn turn(self, table: u32, buffer: &mut [u8], mem: &mut [u8]) -> Result<Turn, Refusal>
-        requires { length mem.old ≤ memory_limit }
-        ensures { (result, buffer.new, mem.new) ≡ turned_with (running_of self.stage self table buffer.old mem.old) }
+    fn turn(self, table: u32, lent: &mut Lent<'_>) -> Result<Turn, Refusal>
+        ensures same_lent { SameLent lent.old lent.new }
+        ensures turn { (result, lent.new.buffer.now, lent.new.mem.now) ≡ turned_with (running_of self.stage self table lent.old.buffer.now lent.old.mem.now) }
     {
         match self.stage {
             Stage::Stopped => Err(Refusal::NoTransfer),
             _ if !self.answered => Err(Refusal::NotYet),
-            Stage::Fetching => Ok(self.fetching(table, buffer.len(), mem)),
-            Stage::Moving(hand) => self.moving(table, hand, buffer, mem),
+            Stage::Fetching => Ok(self.fetching(table, lent)),
+            Stage::Moving(hand) => self.moving(table, hand, lent),
         }
     }
 }
@@ -189,9 +186,9 @@ impl Dat {
         if too_large(mem) {
             return Err(Refusal::MemoryTooLarge);
         }
-        match self {
-            Dat::Runs(t) => t.turn(table, buffer, mem),
-            Dat::Free | Dat::Busy { .. } | Dat::Stuck | Dat::Halted(_) => Err(Refusal::NoTransfer),
-        }
+        let Dat::Runs(t) = self else {
+            return Err(Refusal::NoTransfer);
+        };
+        t.turn(table, &mut Lent { buffer, mem })
     }
 }

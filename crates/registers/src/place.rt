@@ -146,6 +146,20 @@ impl Span {
         self.word
     }
 
+    // The first of its bytes, from the lowest of the word.
+    pub fn lane(self) -> u32
+        ensures { result ≡ self.lane }
+    {
+        self.lane
+    }
+
+    // How many bytes it has.
+    pub fn width(self) -> u32
+        ensures { result ≡ self.width }
+    {
+        self.width
+    }
+
     // As many bytes of ones as the place has.
     #[tactic(auto, using(crate::proofs::Lanes::ones_shr), unfolding(crate::specs::Place::ones_of))]
     fn ones(self) -> u32

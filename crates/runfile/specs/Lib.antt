@@ -1,3 +1,4 @@
 pub mod File
 pub mod Text
 pub mod Run
+pub mod Ride

@@ -1,5 +1,5 @@
 -- "Steps ... Kinds": one step over the controller, and a whole run (01 "The run program"). Assumes nothing: these are definitions.
-use Rattle.std.specs.Prelude.{◌≡◌, ℕ, zero, suc, min, ◌+◌, ◌-◌, ◌*◌, List, [], ◌++◌, cond, take, drop, length, eqb, Option, Some, None, Result, Ok, Err}
+use Rattle.std.specs.Prelude.{ℕ, zero, suc, min, ◌+◌, ◌-◌, ◌*◌, List, [], ◌++◌, cond, take, drop, length, eqb, Option, Some, None, Result, Ok, Err}
 use Rattle.terms.specs.declared.Refusal.{Refusal}
 use Rattle.controller.specs.declared.slot.Done.{Done}
 use Rattle.terms.specs.Answers.{number_of, value_of, is_done}
@@ -16,7 +16,6 @@ use Rattle.runfile.specs.Text.{bad_text, head_text, line_text, put_of}
 use Rattle.runfile.specs.declared.file.Layout.{Layout}
 use Rattle.runfile.specs.declared.file.Step.{Step}
 use Rattle.runfile.specs.declared.run.RunState.{RunState}
-use Rattle.runfile.specs.declared.run.Ride.{Ride}
 
 -- the answer to a step, and the run after it
 pub record StepDone : Type 0 where
@@ -29,14 +28,6 @@ pub record RunWorld : Type 0 where
   pub memory : List ℕ
   pub buffer : List ℕ
   pub room : List ℕ
-
--- what the program holds of it
-abbrev pub world_of : Ride → RunWorld
-world_of r = record { state = r.state; memory = r.memory.now; buffer = r.buffer.now; room = r.room.now }
-
--- it still holds the same buffer and the same room
-abbrev pub SameLent : Ride → Ride → Type 0
-SameLent r s = (s.buffer.ghost_name ≡ r.buffer.ghost_name) × (s.room.ghost_name ≡ r.room.ghost_name)
 
 abbrev pub state_as : Slot → ℕ → RunState
 state_as s used = record { slot = s; used = used }

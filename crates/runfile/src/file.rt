@@ -14,7 +14,7 @@ pub const CARD: u32 = 16384;
 pub const STEP: usize = 20;
 
 // How much each section has.
-#[derive(Clone, Copy, Debug, PartialEq, Eq)]
+#[derive(Clone, Copy)]
 pub struct Layout {
     pub memory: usize,
     pub steps: usize,
@@ -22,7 +22,7 @@ pub struct Layout {
 }
 
 // What a step does, by its number in the file.
-#[derive(Clone, Copy, Debug, PartialEq, Eq)]
+#[derive(Clone, Copy)]
 pub enum Kind {
     Write = 0,
     Read = 1,
@@ -37,7 +37,8 @@ pub enum Kind {
     Turn = 10,
 }
 
-#[derive(Clone, Copy, Debug, PartialEq, Eq)]
+// A number that names no kind.
+#[derive(Clone, Copy)]
 pub struct UnknownKind(pub u8);
 
 impl TryFrom<u8> for Kind {
@@ -120,7 +121,7 @@ pub fn layout_of(file: &[u8]) -> Option<Layout>
     })
 }
 
-// The step at a place. `steps_good` and `run` ask only for places within the file.
+// The step at a place. `steps_good` and the ride ask only for places within the file.
 #[tactic(auto, unfolding(crate::specs::File::step_at))]
 pub(crate) fn step_at(file: &[u8], at: usize) -> Step
     requires { at < 65536 }
@@ -172,7 +173,7 @@ impl Step {
     }
 }
 
-// Are the first `count` steps from a place on good? The callers keep both small: no file is longer.
+// Are the first `count` steps from a place on good? `judge` keeps both small: no file is longer.
 fn steps_good(file: &[u8], base: usize, count: usize) -> bool
     requires { (base < 40000) × (count ≤ 512) }
     ensures { result ≡ list_all (λ i. step_good (step_at file.now (base + STEP * i))) (range_with_len 0 count) }

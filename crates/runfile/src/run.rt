@@ -1,9 +1,9 @@
 // A run: the steps of a good file over the controller, a line of text for each.
 ghost use Rattle.std.specs.Prelude.{◌≡◌, ◌+◌, ◌*◌, ◌≤◌, length};
 ghost use Rattle.controller.specs.Slot.{done_of, power_on};
-ghost use Rattle.runfile.specs.File.{Fills};
+ghost use Rattle.runfile.specs.File.{Fills, steps_base};
 ghost use Rattle.runfile.specs.Text.{put_of};
-ghost use Rattle.runfile.specs.Run.{SameLent, world_of, state_as, done_as, made_of, plain_of, quiet_of, words_of, give_of, take_of, go_of, rode_of, rode_all, good_run, output_of};
+ghost use Rattle.runfile.specs.Run.{state_as, done_as, made_of, plain_of, quiet_of, words_of, give_of, take_of, go_of, rode_of, rode_all, card_of, good_run, output_of};
 
 use crate::file::{Kind, Layout, STEP, Step, judge, step_at};
 use crate::text::Text;
@@ -19,7 +19,7 @@ pub struct RunState {
 }
 
 impl Step {
-    // A step that lends nothing: kinds 0 to 4 and 7 to 9.
+    // A step that lends nothing: every kind but a block given, a block taken and a turn.
     fn quiet(self, slot: Slot) -> Result<Done, Refusal>
         ensures { result ≡ done_of (quiet_of self slot) }
     {
@@ -33,6 +33,7 @@ impl Step {
             Ok(Kind::Respond) => slot.respond(detail, self.words()),
             Ok(Kind::BusyOver) => slot.busy_over(),
             Ok(Kind::DataError) => slot.data_error(detail),
+            // a level: the three that lend do not come here, and a file with an unknown kind is not run
             _ => slot.set_level(detail == 1),
         }
     }
@@ -68,7 +69,7 @@ impl RunState {
         self.settle(step.quiet(self.slot))
     }
 
-    // Kind 6.
+    // A block is taken, into the room.
     #[tactic(auto, using(crate::proofs::Made::take_made))]
     fn take(&mut self, buffer: &[u8], room: &mut [u8]) -> Answer
         ensures { (done_as result self.new, room.new) ≡ take_of self.old buffer.now room.old }
@@ -76,7 +77,7 @@ impl RunState {
         self.settle(self.slot.taken(buffer, room))
     }
 
-    // Kind 10.
+    // A turn, with the lent memory.
     #[tactic(auto, using(crate::proofs::Made::go_made))]
     fn go(&mut self, buffer: &mut [u8], memory: &mut [u8]) -> Answer
         ensures { (done_as result self.new, buffer.new, memory.new) ≡ go_of self.old buffer.old memory.old }
@@ -84,7 +85,7 @@ impl RunState {
         self.settle(self.slot.turn(buffer, memory))
     }
 
-    // Kind 5: the next block-size card bytes, or what is left, used up only where they are taken.
+    // A block is given: the next block-size bytes of the card, or what is left, used up only where they are taken.
     fn give(&mut self, card: &[u8], buffer: &mut [u8]) -> Answer
         requires { self.old.used ≤ length card.now }
         ensures { (done_as result self.new, buffer.new) ≡ give_of card.now self.old buffer.old }
@@ -99,23 +100,36 @@ impl RunState {
     }
 }
 
-// A run under way: between two of its steps, and what it is lent, memory, a buffer of one block, and room for blocks taken.
+// A run under way, between two of its steps: its file, and what it is lent, memory, a buffer of one block, and room for blocks taken.
 #[derive(Drop)]
 struct Ride<'a> {
+    file: &'a [u8],
+    layout: Layout,
     state: RunState,
     memory: &'a mut [u8],
     buffer: &'a mut [u8],
     room: &'a mut [u8],
+    ghost fills: { Fills file.now layout },
+    ghost within: { state.used ≤ layout.card },
 }
 
-impl Ride<'_> {
+impl<'a> Ride<'a> {
+    ghost use Rattle.runfile.specs.Ride.{SameLent, world_of};
+
+    // The card's bytes, the file's last section.
+    fn card(&self) -> &'a [u8]
+        ensures { result.now ≡ card_of self.now.file.now self.now.layout }
+    {
+        &self.file[12 + self.layout.memory + STEP * self.layout.steps..]
+    }
+
     // One step of the file.
     #[tactic(auto, unfolding(crate::specs::Run::rode_of))]
-    fn step(&mut self, step: Step, card: &[u8]) -> Answer
-        requires { self.old.state.used ≤ length card.now }
+    fn step(&mut self, step: Step) -> Answer
         ensures same_lent { SameLent self.old self.new }
-        ensures ride { (done_as result self.new.state, world_of self.new) ≡ rode_of card.now step (world_of self.old) }
+        ensures ride { (done_as result self.new.state, world_of self.new) ≡ rode_of (card_of self.old.file.now self.old.layout) step (world_of self.old) }
     {
+        let card = self.card();
         let buffer = &mut *self.buffer;
         match Kind::try_from(step.kind) {
             Ok(Kind::Given) => self.state.give(card, buffer),
@@ -131,17 +145,17 @@ impl Ride<'_> {
         }
     }
 
-    // So many steps of the file, and their lines. `run` has judged the file and lends room for every line.
-    fn steps(&mut self, file: &[u8], card: &[u8], base: usize, steps: usize, text: &mut Text)
-        requires { (self.old.state.used ≤ length card.now) × (base ≤ 40000) × (steps ≤ 512) × (text.old.at + 19 * steps ≤ length text.old.room.now) }
+    // The steps of the file, and their lines. `run` lends room for every line.
+    fn steps(&mut self, text: &mut Text)
+        requires { text.old.at + 19 * self.old.layout.steps ≤ length text.old.room.now }
         ensures same_lent { SameLent self.old self.new }
         ensures same_room { text.new.room.ghost_name ≡ text.old.room.ghost_name }
-        ensures ride { ((text.new.at, text.new.room.now), world_of self.new) ≡ rode_all file.now card.now base steps 0 (world_of self.old) text.old.room.now text.old.at }
+        ensures ride { ((text.new.at, text.new.room.now), world_of self.new) ≡ rode_all self.old.file.now (card_of self.old.file.now self.old.layout) (steps_base self.old.layout.memory) self.old.layout.steps 0 (world_of self.old) text.old.room.now text.old.at }
         ensures within { text.new.at ≤ length text.new.room.now }
     {
-        for i in 0..steps {
-            let step = step_at(file, base + STEP * i);
-            let answer = self.step(step, card);
+        for i in 0..self.layout.steps {
+            let step = step_at(self.file, 8 + self.layout.memory + STEP * i);
+            let answer = self.step(step);
             text.line(
                 i,
                 usize::from(number(answer)),
@@ -152,17 +166,17 @@ impl Ride<'_> {
     }
 
     // A good file, from power-on: its memory is copied into the lent space and lent whole to every turn.
-    fn run(&mut self, file: &[u8], layout: Layout, text: &mut Text)
-        requires { Fills file.now layout × (length self.old.memory.now ≡ layout.memory) × (self.old.state ≡ state_as power_on 0) × (text.old.at ≡ 0) × (9744 ≤ length text.old.room.now) }
+    fn run(&mut self, text: &mut Text)
+        requires { (length self.old.memory.now ≡ self.old.layout.memory) × (self.old.state ≡ state_as power_on 0) × (text.old.at ≡ 0) × (9744 ≤ length text.old.room.now) }
         ensures same_lent { SameLent self.old self.new }
         ensures same_room { text.new.room.ghost_name ≡ text.old.room.ghost_name }
-        ensures run { ((text.new.at, text.new.room.now), (self.new.memory.now, self.new.buffer.now, self.new.room.now)) ≡ good_run file.now layout self.old.buffer.now self.old.room.now text.old.room.now }
+        ensures run { ((text.new.at, text.new.room.now), (self.new.memory.now, self.new.buffer.now, self.new.room.now)) ≡ good_run self.old.file.now self.old.layout self.old.buffer.now self.old.room.now text.old.room.now }
         ensures within { text.new.at ≤ length text.new.room.now }
     {
-        self.memory.copy_from_slice(&file[4..4 + layout.memory]);
-        text.head(layout.steps);
-        let card = &file[12 + layout.memory + STEP * layout.steps..];
-        self.steps(file, card, 8 + layout.memory, layout.steps, text);
+        self.memory
+            .copy_from_slice(&self.file[4..4 + self.layout.memory]);
+        text.head(self.layout.steps);
+        self.steps(text);
     }
 }
 
@@ -182,6 +196,8 @@ pub fn run(
     let mut text = Text::new(out);
     if let Some(layout) = judge(file) {
         let mut ride = Ride {
+            file,
+            layout,
             state: RunState {
                 slot: Slot::power_on(),
                 used: 0,
@@ -190,7 +206,7 @@ pub fn run(
             buffer,
             room,
         };
-        ride.run(file, layout, &mut text);
+        ride.run(&mut text);
     } else {
         text.bad();
     }

@@ -5,7 +5,7 @@ ghost use Rattle.slot.specs.Lines.{survey_part, survey_of, boot_part, boot_of, l
 
 use crate::step::Answer;
 use table::line::{Flags, Line};
-use table::survey::{Kind, Report};
+use table::survey::Report;
 use terms::{ByteCount, Refusal};
 
 // What a survey tells: its number, kind (0 well, 1 error, 2 limit), the 054h byte, lines tried, bytes named, the address after.
@@ -45,15 +45,10 @@ impl From<Report> for Survey {
     ghost from_gives = { λ report survey. survey ≡ survey_part (Ok report) };
 
     fn from(report: Report) -> Survey {
-        let (kind, state) = match report.kind {
-            Kind::Well => (0, 0),
-            Kind::Error(failure) => (1, failure.byte()),
-            Kind::Limit => (2, 0),
-        };
         Survey {
             number: 0,
-            kind,
-            state: state.into(),
+            kind: report.kind.number().into(),
+            state: report.kind.state().into(),
             lines: report.lines,
             bytes: report.bytes.0,
             after: report.after,

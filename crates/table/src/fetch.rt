@@ -31,7 +31,7 @@ impl Failure {
 }
 
 // A Tran line in hand: the bytes still to move, their address, End and Int.
-#[derive(Clone, Copy, PartialEq, Eq)]
+#[derive(Clone, Copy)]
 pub struct Hand {
     pub rest: ByteCount,
     pub at: u32,

@@ -10,7 +10,7 @@ use terms::ByteCount;
 pub const SIZE: u32 = 8;
 
 // The five flags of byte 0.
-#[derive(Clone, Copy, PartialEq, Eq)]
+#[derive(Clone, Copy)]
 pub struct Flags {
     pub valid: bool,
     pub end: bool,
@@ -20,7 +20,7 @@ pub struct Flags {
 }
 
 // What a line says: its flags, how many bytes it names, and an address.
-#[derive(Clone, Copy, PartialEq, Eq)]
+#[derive(Clone, Copy)]
 pub struct Line {
     pub flags: Flags,
     pub length: ByteCount,
@@ -28,7 +28,7 @@ pub struct Line {
 }
 
 // What a line asks for: bytes moved, a jump to another line, or only a step to the next.
-#[derive(Clone, Copy, PartialEq, Eq)]
+#[derive(Clone, Copy)]
 pub enum Act {
     Tran,
     Link,
@@ -86,9 +86,7 @@ pub fn length_of(line: &[u8]) -> ByteCount
 pub fn address_of(line: &[u8]) -> u32
     ensures { result ≡ address_of line.now }
 {
-    let low = u32::from(half(line, 4));
-    let high = u32::from(half(line, 6));
-    (low + 65536 * high) / 4 * 4
+    u32::from_le_bytes([byte(line, 4), byte(line, 5), byte(line, 6), byte(line, 7)]) / 4 * 4
 }
 
 // The flags of a line.

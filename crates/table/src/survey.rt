@@ -2,7 +2,7 @@
 ghost use Rattle.std.specs.Prelude.{◌≡◌, ◌+◌, ◌<◌, ◌≤◌, length};
 ghost use Rattle.table.specs.Memory.{memory_limit};
 ghost use Rattle.table.specs.Trace.{finish_kind, trace_of};
-ghost use Rattle.table.specs.Survey.{report_as, report_of, behind_of, allowed_of, lines_most, survey_of, boot_of};
+ghost use Rattle.table.specs.Survey.{kind_of, state_of, report_as, report_of, behind_of, allowed_of, lines_most, survey_of, boot_of};
 
 use crate::fetch::{Failure, Fetched, fetch};
 use crate::memory::too_large;
@@ -20,6 +20,29 @@ pub enum Kind {
     Well,
     Error(Failure),
     Limit,
+}
+
+impl Kind {
+    // Its number: 0 well, 1 error, 2 limit.
+    pub fn number(self) -> u8
+        ensures { result ≡ kind_of self }
+    {
+        match self {
+            Kind::Well => 0,
+            Kind::Error(_) => 1,
+            Kind::Limit => 2,
+        }
+    }
+
+    // The byte of 054h: 0 where it is no error.
+    pub fn state(self) -> u8
+        ensures { result ≡ state_of self }
+    {
+        match self {
+            Kind::Error(failure) => failure.byte(),
+            Kind::Well | Kind::Limit => 0,
+        }
+    }
 }
 
 // What a survey finds: how the table ends, the lines tried, the bytes named, and the address after.
@@ -126,5 +149,5 @@ pub fn boot_check(mem: &[u8], start: u32, owed: ByteCount) -> Result<bool, Refus
     ensures { result ≡ boot_of mem.now start owed }
 {
     let report = survey(mem, start, owed, 0)?;
-    Ok(matches!(report.kind, Kind::Well))
+    Ok(report.kind == Kind::Well)
 }

@@ -6,7 +6,7 @@ ghost use Rattle.terms.specs.Counts.{times, fewer, less, least};
 ghost use Rattle.terms.specs.Answers.{row_of, number_of, value_of};
 
 // A count of blocks. Block Count, 006h, has 16 bits, and no transfer has more blocks.
-#[derive(Clone, Copy, PartialEq, Eq)]
+#[derive(Clone, Copy)]
 pub struct BlockCount(pub u16);
 
 // A count of bytes.

@@ -2,28 +2,20 @@
 // survey, or what else the row is about.
 use std::io;
 use table::line::{Flags, Line, length_of, line_at, read_line};
-use table::survey::{Kind, Report, boot_check, survey};
+use table::survey::{Report, boot_check, survey};
 use table::written::write_line;
 use terms::{ByteCount, Refusal, number};
 
-// The number of a kind, and the byte of 054h.
-fn kind_and_byte(kind: Kind) -> (u8, u8) {
-    match kind {
-        Kind::Well => (0, 0),
-        Kind::Error(failure) => (1, failure.byte()),
-        Kind::Limit => (2, 0),
-    }
-}
-
 fn surveyed(rt: &impl Print, name: &str, found: Result<Report, Refusal>) -> io::Result<()> {
     match found {
-        Ok(report) => {
-            let (kind, byte) = kind_and_byte(report.kind);
-            println!(rt;
-                "{name} 0 {kind} {byte} {} {} {}",
-                report.lines, report.bytes.0, report.after
-            )
-        }
+        Ok(report) => println!(rt;
+            "{name} 0 {} {} {} {} {}",
+            report.kind.number(),
+            report.kind.state(),
+            report.lines,
+            report.bytes.0,
+            report.after
+        ),
         Err(refusal) => println!(rt; "{name} {} 0 0 0 0 0", refusal.row()),
     }
 }
