@@ -32,7 +32,8 @@ impl Transfer {
     }
 }
 
-// Copies a part into a room, from a place on; the callers have looked that it fits.
+// Copies a part into a room, from a place on; the callers have looked that it fits. A loop, since for `copy_from_slice` the
+// archive would call `memmove`, and it calls nothing outside itself.
 pub(crate) fn put(room: &mut [u8], at: usize, part: &[u8])
     requires { at + length part.now ≤ length room.old }
     ensures { room.new ≡ paste room.old at part.now (length part.now) }

@@ -65,6 +65,7 @@ impl TryFrom<u8> for Kind {
     }
 }
 
+// A step as its 20 bytes say it; the kind is the file's number.
 #[derive(Clone, Copy)]
 pub struct Step {
     pub kind: u8,

@@ -34,7 +34,9 @@ impl Step {
             Ok(Kind::BusyOver) => slot.busy_over(),
             Ok(Kind::DataError) => slot.data_error(detail),
             // a level: the three that lend do not come here, and a file with an unknown kind is not run
-            _ => slot.set_level(detail == 1),
+            Ok(Kind::Level | Kind::Given | Kind::Taken | Kind::Turn) | Err(_) => {
+                slot.set_level(detail == 1)
+            }
         }
     }
 
