@@ -155,12 +155,15 @@ impl Slot {
         if !self.card {
             return Err(Refusal::OutOfTurn);
         }
+        // the sides first: where registers come before them, each way through them copies the block to and fro
+        let command = halted_command(self.command);
+        let dat = halted_dat(self.dat);
         let slot = Slot {
             registers: raised_at(self.registers.unplug(), Event::CardRemoval),
             card: false,
             level: false,
-            command: halted_command(self.command),
-            dat: halted_dat(self.dat),
+            command,
+            dat,
         };
         Ok(slot.done(0))
     }

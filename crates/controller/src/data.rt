@@ -155,12 +155,12 @@ impl Slot {
     pub fn data_error(self, n: u32) -> Result<Done, Refusal>
         ensures { result ≡ done_of (data_error self n) }
     {
-        let error = DataError::try_from(n)?;
         let dat = match self.dat {
-            Dat::Busy { answered: true } if error == DataError::Timeout => Dat::Stuck,
+            Dat::Busy { answered: true } if n == DataError::Timeout as u32 => Dat::Stuck,
             Dat::Runs(t) if t.answered => Dat::Halted(t.way),
             _ => return Err(Refusal::OutOfTurn),
         };
+        let error = DataError::try_from(n)?;
         Ok(self.told(dat, error.event()))
     }
 

@@ -93,8 +93,8 @@ pub(crate) fn halted_command(command: Command) -> Command
     ensures { result ≡ halted_command command }
 {
     match command {
-        Command::Waits(_) => Command::Halted,
-        other => other,
+        Command::Idle => Command::Idle,
+        Command::Waits(_) | Command::Halted => Command::Halted,
     }
 }
 
@@ -103,9 +103,9 @@ pub(crate) fn halted_dat(dat: Dat) -> Dat
     ensures { result ≡ halted_dat dat }
 {
     match dat {
-        Dat::Busy { .. } => Dat::Stuck,
-        Dat::Runs(t) => Dat::Halted(t.way),
-        other => other,
+        Dat::Free => Dat::Free,
+        Dat::Busy { .. } | Dat::Stuck => Dat::Stuck,
+        Dat::Runs(Transfer { way, .. }) | Dat::Halted(way) => Dat::Halted(way),
     }
 }
 

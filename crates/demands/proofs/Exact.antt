@@ -3,21 +3,21 @@ use Prim.Native.Nat.{ℕ}
 use native.Mathlib.Omega.{arith}
 use mathlib.Core.Path.{◌≡◌, refl}
 use mathlib.Core.List.{List}
-use Rattle.std.specs.Prelude.{⊤, Result, Ok, Err}
+use Rattle.std.specs.Prelude.{Result, Ok, Err}
 use Rattle.terms.specs.declared.ByteCount.{ByteCount}
-use Rattle.terms.specs.Answers.{number_of, value_of}
+use Rattle.terms.specs.Answers.{number_of}
 use Rattle.terms.specs.declared.Refusal.{Refusal}
 use Rattle.table.specs.Survey.{survey_of, says_yes}
 use Rattle.table.specs.Written.{write_of}
 use Rattle.table.specs.declared.line.Line.{Line}
 use Rattle.table.specs.declared.survey.Report.{Report}
 use Rattle.table.proofs.Exactly.{refused_17, written_or_17, refused_keeps, survey_11, survey_12, survey_0, survey_zeros, boot_11, boot_yes}
-use Rattle.table.proofs.Readback.{write_read}
+use Rattle.table.proofs.Readback.{line_value, write_read}
 use Rattle.controller.specs.Steps.{Step, World}
 use Rattle.controller.proofs.Refused.{refused, one_outcome}
 use Rattle.controller.proofs.Exactly.{row_1, row_2, row_3, row_4, row_5, row_6, row_7, row_8, row_9, row_10, row_11, below_12}
 use Rattle.controller.proofs.Bench.{paper_holds}
-use Rattle.demands.specs.Exact.{Refusing, Surveying, line_answer, Writing, Exact}
+use Rattle.demands.specs.Exact.{Refusing, Surveying, Writing, Exact}
 
 -- "Each entry ... refuses exactly what document 01 refuses."
 pub demand_1 : (w : World) (e : Step) → Refusing w e
@@ -55,11 +55,6 @@ demand_1_survey mem start owed n =
       boot_0 = rw (boot_number (survey_of mem start owed 0)) (λ e. ((survey_0 mem start owed 0).0 e).0, λ m. (survey_0 mem start owed 0).1 (m, omega arith));
       boot_yes = boot_yes mem start owed;
     }
-
--- a line written or refused has value 0
-line_value : (r : Result ⊤ Refusal) → value_of (line_answer r) ≡ 0
-line_value (Ok done) = refl
-line_value (Err refusal) = refl
 
 -- and of a line to be written
 pub demand_1_line : (room : List ℕ) (l : Line) → Writing room l

@@ -1,14 +1,12 @@
 -- "Total and refusing", "Exact": demands 1 and 2 over every entry in every world, over every survey and boot check of lent memory, and over every
 -- line to be written. That an entry ends and takes every input is its contract, which has no `requires` and equates it with the definition that is
 -- named here. Assumes nothing: these are definitions.
-use Rattle.std.specs.Prelude as prelude
-use Rattle.std.specs.Prelude.{ℕ, ◌%◌, ◌≤◌, ◌<◌, ◌^◌, ◌≡◌, ◌↔◌, ◌⊎◌, ◌≢◌, List, true, length, ⊤, Ok, Err}
-use Rattle.terms.specs.Answers.{Answer, number_of, value_of}
-use Rattle.terms.specs.declared.Refusal.{Refusal}
+use Rattle.std.specs.Prelude.{ℕ, ◌%◌, ◌≤◌, ◌<◌, ◌^◌, ◌≡◌, ◌↔◌, ◌⊎◌, ◌≢◌, List, true, length}
+use Rattle.terms.specs.Answers.{number_of, value_of}
 use Rattle.terms.specs.Bench.{Hold}
 use Rattle.terms.specs.declared.ByteCount.{ByteCount}
 use Rattle.table.specs.Line.{read_of}
-use Rattle.table.specs.Written.{write_of}
+use Rattle.table.specs.Written.{write_of, line_answer}
 use Rattle.table.specs.declared.survey.Kind.TheVariants.{Well}
 use Rattle.table.specs.Survey.{survey_trace, survey_of, figures_of, boot_of, yes_of}
 use Rattle.table.specs.declared.line.Line.{Line}
@@ -53,11 +51,6 @@ pub record Surveying (mem : List ℕ) (start : ℕ) (owed : ByteCount) (n : ℕ)
   pub boot_11 : (number_of (boot_of mem start owed) ≡ 11) ↔ (16777216 < length mem)
   pub boot_0 : (number_of (boot_of mem start owed) ≡ 0) ↔ (length mem ≤ 16777216)
   pub boot_yes : (yes_of (boot_of mem start owed) ≡ true) ↔ ((length mem ≤ 16777216) × ((survey_trace mem start owed 0).kind ≡ Well))
-
--- the answer to a line to be written: one that is written has value 0
-abbrev pub line_answer : prelude.Result ⊤ Refusal → Answer
-line_answer (Ok done) = Ok 0
-line_answer (Err refusal) = Err refusal
 
 -- demand 1, of a line to be written into lent room
 pub record Writing (room : List ℕ) (l : Line) : Type 0 where

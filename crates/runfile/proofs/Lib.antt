@@ -1,5 +1,4 @@
 -- What the proofs of several functions use.
-pub mod Bytes
 pub mod Goods
 pub mod Onward
 pub mod Picks

@@ -1,6 +1,6 @@
 // The file: three sections, each after its count, and steps of 20 bytes. A bad one is refused as a whole.
 ghost use Rattle.std.specs.Prelude.{◌≡◌, ℕ, ◌+◌, ◌*◌, ◌<◌, ◌≤◌, None, Some, cond, ltb, slice_index, IfSome};
-ghost use Rattle.runfile.specs.File.{byte_at, word_at, layout_of, Fills, step_at, no_rest, no_words, kind_of, step_good, good_of};
+ghost use Rattle.runfile.specs.File.{byte_at, word_at, layout_of, Fills, step_at, no_rest, no_words, kind_of, step_good, steps_good, good_of};
 ghost use Rattle.std.specs.List.{list_all, range_with_len};
 
 // The most bytes of memory, steps, and card bytes.
@@ -81,10 +81,12 @@ pub struct Step {
 fn bytes_at<const N: usize>(file: &[u8], at: usize) -> [u8; N]
     ensures { (i : ℕ) → i < N → slice_index result i ≡ byte_at file.now (at + i) }
 {
-    let mut bytes = [0; N];
     let rest = &file[at.min(file.len())..];
-    let n = rest.len().min(N);
-    bytes[..n].copy_from_slice(&rest[..n]);
+    if let Some(whole) = rest.first_chunk() {
+        return *whole;
+    }
+    let mut bytes = [0; N];
+    bytes[..rest.len()].copy_from_slice(rest);
     bytes
 }
 
@@ -174,16 +176,24 @@ impl Step {
     }
 }
 
-// Are the first `count` steps from a place on good? `judge` keeps both small: no file is longer.
-fn steps_good(file: &[u8], base: usize, count: usize) -> bool
+// Is each of so many steps, from a place on, good? `judge` keeps both small: no file is longer.
+fn all_good(file: &[u8], base: usize, count: usize) -> bool
     requires { (base < 40000) × (count ≤ 512) }
     ensures { result ≡ list_all (λ i. step_good (step_at file.now (base + STEP * i))) (range_with_len 0 count) }
 {
     (0..count).all(|i| step_at(file, base + STEP * i).is_good())
 }
 
-// The sections of a good file.
+// Are the first `count` steps from a place on good, as the recursion over them says it?
 #[tactic(auto, using(crate::proofs::Goods::good_steps))]
+fn steps_good(file: &[u8], base: usize, count: usize) -> bool
+    requires { (base < 40000) × (count ≤ 512) }
+    ensures { result ≡ steps_good file.now base count }
+{
+    all_good(file, base, count)
+}
+
+// The sections of a good file.
 pub fn judge(file: &[u8]) -> Option<Layout>
     ensures value { result ≡ good_of file.now }
     ensures fills { IfSome result (λ l. Fills file.now l) }

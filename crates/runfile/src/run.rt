@@ -1,7 +1,7 @@
 // A run: the steps of a good file over the controller, a line of text for each.
-ghost use Rattle.std.specs.Prelude.{◌≡◌, ◌+◌, ◌*◌, ◌≤◌, length};
+ghost use Rattle.std.specs.Prelude.{◌≡◌, ◌+◌, ◌*◌, ◌≤◌, length, take, IfSome};
 ghost use Rattle.controller.specs.Slot.{done_of, power_on};
-ghost use Rattle.runfile.specs.File.{Fills, steps_base};
+ghost use Rattle.runfile.specs.File.{Fills, steps_base, good_of};
 ghost use Rattle.runfile.specs.Text.{put_of};
 ghost use Rattle.runfile.specs.Run.{state_as, done_as, made_of, plain_of, quiet_of, words_of, give_of, take_of, go_of, rode_of, rode_all, card_of, good_run, output_of};
 
@@ -194,9 +194,11 @@ pub fn run(
     requires { (32768 ≤ length mem.old) × (9744 ≤ length out.old) }
     ensures text { (result, out.new) ≡ put_of out.old 0 (output_of file.now buffer.old room.old) }
     ensures within { result ≤ length out.new }
+    ensures memory { IfSome (good_of file.now) (λ l. take l.memory mem.new ≡ (good_run file.now l buffer.old room.old out.old).1.0) }
 {
     let mut text = Text::new(out);
     if let Some(layout) = judge(file) {
+        let (memory, _) = mem.split_at_mut(layout.memory);
         let mut ride = Ride {
             file,
             layout,
@@ -204,7 +206,7 @@ pub fn run(
                 slot: Slot::power_on(),
                 used: 0,
             },
-            memory: &mut mem[..layout.memory],
+            memory,
             buffer,
             room,
         };

@@ -1,6 +1,7 @@
 -- What needs no slot, spelled in numbers: surveys, the boot check, lines written and read. Assumes nothing: these are definitions.
 use Rattle.std.specs.Prelude.{ℕ, List, Bool, ⊤, Result}
 use Rattle.terms.specs.declared.Refusal.{Refusal}
+use Rattle.slot.specs.Step.{answer_of}
 use Rattle.terms.specs.Answers.{number_of}
 use Rattle.terms.specs.Counts.{bytes}
 use Rattle.table.specs.Line as line
@@ -52,9 +53,9 @@ line_part l =
       address = l.address;
     }
 
--- a line that is written has value 0
+-- "An answer is a number and a value."
 abbrev pub written_part : Result ⊤ Refusal → Answer
-written_part a = record { number = number_of a; value = 0 }
+written_part a = answer_of (written.line_answer a)
 
 abbrev pub write_of : List ℕ → LinePart → Answer × List ℕ
 write_of room p = let w = written.write_of room (line_at p) in (written_part w.0, w.1)

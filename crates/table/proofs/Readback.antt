@@ -10,13 +10,13 @@ use lib.ListN.{length}
 use lib.Dec.{leb, eqb}
 use borrow.Author.Tests.{leb-true, leb-false, eqb-true, eqb-false, eq-eqb, ne_eqb}
 use Rattle.terms.specs.Counts.{bytes}
-use Rattle.terms.specs.Answers.{number_of}
+use Rattle.terms.specs.Answers.{number_of, value_of}
 use Rattle.std.specs.Prelude.{⊤, Result, Ok, Err}
 use Rattle.terms.specs.declared.Refusal.{Refusal}
 use Rattle.terms.specs.declared.Refusal.TheVariants.{LineRefused}
 use Rattle.table.specs.Line.{line_size, byte_of, length_of, address_of, flags_of, read_of}
 use Rattle.terms.specs.Flag.{unit_of}
-use Rattle.table.specs.Written.{flag_byte, line_of, writable, write_of}
+use Rattle.table.specs.Written.{flag_byte, line_of, writable, write_of, line_answer}
 use Rattle.table.specs.declared.line.Line.{Line}
 
 -- "length 0 or over 65,536", or "address not a multiple of 4"
@@ -95,6 +95,16 @@ module _ (l : Line) where
 
   fit_back : Fits l true → l.address < 2 ^ 32 → read_of (line_of l) ≡ l
   fit_back (fit low high even) small = λ j. record { flags = flags_back j; length = bytes (length_back low high j); address = address_back even small j }
+
+-- a line written or refused has value 0
+pub line_value : (r : Result ⊤ Refusal) → value_of (line_answer r) ≡ 0
+line_value (Ok done) = refl
+line_value (Err refusal) = refl
+
+-- and its number is that of what became of it
+pub line_number : (r : Result ⊤ Refusal) → number_of (line_answer r) ≡ number_of r
+line_number (Ok done) = refl
+line_number (Err refusal) = refl
 
 -- "reading it gives these back"
 pub read_back : (l : Line) → writable l ≡ true → l.address < 2 ^ 32 → read_of (line_of l) ≡ l

@@ -3,6 +3,7 @@ use Rattle.std.specs.Prelude.{ℕ, ◌+◌, ◌*◌, ◌/◌, ◌%◌, List, [],
 use Rattle.terms.specs.Flag.{unit_of}
 use Rattle.terms.specs.declared.Refusal.{Refusal}
 use Rattle.terms.specs.declared.Refusal.TheVariants.{LineRefused}
+use Rattle.terms.specs.Answers.{Answer}
 use Rattle.table.specs.Line.{line_size}
 use Rattle.table.specs.declared.line.Flags.{Flags}
 use Rattle.table.specs.declared.line.Line.{Line}
@@ -31,3 +32,8 @@ writable l = leb 1 l.length.0 && (leb l.length.0 65536 && eqb (l.address % 4) 0)
 -- the answer and the room after it: 17 also for "room not 8 bytes", and then the room stays as it is
 abbrev pub write_of : List ℕ → Line → Result ⊤ Refusal × List ℕ
 write_of room l = cond (eqb (length room) line_size && writable l) (Ok tt, line_of l) ((Err LineRefused), room)
+
+-- its number and its value: a line that is written has value 0
+abbrev pub line_answer : Result ⊤ Refusal → Answer
+line_answer (Ok done) = Ok 0
+line_answer (Err refusal) = Err refusal

@@ -2,7 +2,7 @@
 ghost use Rattle.std.specs.Prelude.{◌≡◌};
 ghost use Rattle.table.specs.Written.{flag_byte, line_of, writable, write_of};
 
-use crate::line::{Flags, Line, SIZE};
+use crate::line::{Flags, Line};
 use terms::Refusal;
 
 // The flags as byte 0.
@@ -37,9 +37,11 @@ fn line_bytes(l: Line) -> [u8; 8]
 pub fn write_line(room: &mut [u8], l: Line) -> Result<(), Refusal>
     ensures { (result, room.new) ≡ write_of room.old l }
 {
-    if room.len() != SIZE as usize || !may_write(l) {
-        return Err(Refusal::LineRefused);
+    match room.as_mut_array() {
+        Some(whole) if may_write(l) => {
+            *whole = line_bytes(l);
+            Ok(())
+        }
+        _ => Err(Refusal::LineRefused),
     }
-    room.copy_from_slice(&line_bytes(l));
-    Ok(())
 }

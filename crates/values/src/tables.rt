@@ -1,23 +1,17 @@
 // P3 to P10, the limits of a survey, the boot check, and lines written: answer, kind, 054h byte, lines, bytes and address of a
 // survey, or what else the row is about.
+use slot::lines::{Survey, survey_table};
 use std::io;
 use table::line::{Flags, Line, length_of, line_at, read_line};
-use table::survey::{Report, boot_check, survey};
+use table::survey::boot_check;
 use table::written::write_line;
-use terms::{ByteCount, Refusal, number};
+use terms::{ByteCount, number};
 
-fn surveyed(rt: &impl Print, name: &str, found: Result<Report, Refusal>) -> io::Result<()> {
-    match found {
-        Ok(report) => println!(rt;
-            "{name} 0 {} {} {} {} {}",
-            report.kind.number(),
-            report.kind.state(),
-            report.lines,
-            report.bytes.0,
-            report.after
-        ),
-        Err(refusal) => println!(rt; "{name} {} 0 0 0 0 0", refusal.row()),
-    }
+fn surveyed(rt: &impl Print, name: &str, found: Survey) -> io::Result<()> {
+    println!(rt;
+        "{name} {} {} {} {} {} {}",
+        found.number, found.kind, found.state, found.lines, found.bytes, found.after
+    )
 }
 
 // The worked example's memory, with another first byte or line address.
@@ -44,16 +38,16 @@ fn examples(rt: &impl Print) -> io::Result<()> {
         ("P8", 0x22, 0x10, 8),
     ] {
         let mem = memory(first, address);
-        surveyed(rt, name, survey(&mem, 0, ByteCount(owed), 0))?;
+        surveyed(rt, name, survey_table(&mem, 0, owed, 0))?;
     }
-    surveyed(rt, "P9", survey(b"", 0, ByteCount(8), 0))
+    surveyed(rt, "P9", survey_table(b"", 0, 8, 0))
 }
 
 // A line that links to itself, under three limits.
 fn rings(rt: &impl Print) -> io::Result<()> {
     let mem = [0x31, 0, 0, 0, 0, 0, 0, 0];
     for (name, limit) in [("P10", 0), ("limit 4096", 4096), ("limit 4097", 4097)] {
-        surveyed(rt, name, survey(&mem, 0, ByteCount(8), limit))?;
+        surveyed(rt, name, survey_table(&mem, 0, 8, limit))?;
     }
     Ok(())
 }

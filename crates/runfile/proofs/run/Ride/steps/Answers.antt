@@ -33,7 +33,7 @@ loop-i-preserved c =
     let g = o.invariant.lent in
     record {
       lines = omega (arith, k, e, f);
-      lent = (h.0 ∙ g.0, h.1 ∙ g.1, h.2 ∙ g.2, h.3 ∙ g.3);
+      lent = (h.0 ∙ g.0, h.1 ∙ g.1, h.2 ∙ g.2, h.3 ∙ g.3, h.4 ∙ g.4);
       room = p.ensures.same_room ∙ o.invariant.room;
       rest = rode_on file card base _ _ o.i w v d o.text.room.now n.room.now o.text.at n.at (omega arith) r l ∙ o.invariant.rest;
     }
